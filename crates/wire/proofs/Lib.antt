@@ -1,0 +1,8 @@
+-- The laws that readers and writers of frames cite, by subject.
+pub mod Cases
+pub mod First
+pub mod Signed
+pub mod Bytes
+pub mod Pack
+pub mod SyncCases
+pub mod Lists

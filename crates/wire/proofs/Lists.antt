@@ -1,0 +1,80 @@
+-- Lists by index, and lists one after another. Assumes nothing.
+use mathlib.Core.Path.{_≡_, refl, sym, ap, ap₂, _∙_}
+use mathlib.Core.List.{List, [], _∷_, _++_, append-assoc, append-nil}
+use Prim.Native.Nat.{ℕ, zero, suc, _+_, _-_, _*_, _<_, _≤_}
+use native.Mathlib.Omega.{arith}
+use lib.Arith.{digits-lt}
+use lib.ListN.{length, getD, take, drop, set, length-append, length-drop, take-append-drop, List·getD-append}
+use lib.Seq.{drop-cons, drop-drop, take-suc, set-at, getD-at, getD-append-add}
+use native.Mathlib.Nat.{add-zero, add-suc, zero-mul, suc-mul}
+use native.Mathlib.Numerals.{add-one}
+use Rattle.wire.proofs.Cases.{by-order}
+use Rattle.wire.specs.Lists.{tab, over, tabs}
+
+module _ {A : Type 0} where
+  pub length-tab : (n : ℕ) (f : ℕ → A) → length (tab n f) ≡ n
+  length-tab zero f = refl
+  length-tab (suc n) f = rw (length-append (tab n f) (f n ∷ []), length-tab n f) (omega arith)
+
+  pub getD-tab : (n : ℕ) (f : ℕ → A) (i : ℕ) (d : A) → i < n → getD (tab n f) i d ≡ f i
+  getD-tab zero f i d h = absurd (omega arith)
+  getD-tab (suc n) f i d h =
+      by-order i n
+      (λ below. List·getD-append (tab n f) (f n ∷ []) d i (rw (length-tab n f) below) ∙ getD-tab n f i d below)
+      (λ above. let last : i ≡ n = omega arith in rw last (getD-at (tab n f) (f n) [] d n (length-tab n f)))
+
+  -- one value more
+  pub over-more : (n : ℕ) (f : ℕ → A) (xs : List A) → n < length xs → set (over n f xs) n (f n) ≡ over (n + 1) f xs
+  over-more n f xs h =
+      rw (add-one n, drop-cons xs n (f n), append-assoc (tab n f) (f n ∷ []) (drop (suc n) xs)) (set-at (tab n f) (getD xs n (f n)) (drop (suc n) xs) (f n) n (length-tab n f))
+
+  pub length-over : (n : ℕ) (f : ℕ → A) (xs : List A) → n ≤ length xs → length (over n f xs) ≡ length xs
+  length-over n f xs h = rw (length-append (tab n f) (drop n xs), length-tab n f, length-drop n xs) (omega arith)
+
+  -- equal at each index below n
+  pub tab-same : (n : ℕ) (f g : ℕ → A) → ((i : ℕ) → i < n → f i ≡ g i) → tab n f ≡ tab n g
+  tab-same zero f g same = refl
+  tab-same (suc n) f g same =
+      ap₂ (λ l a. l ++ (a ∷ [])) (tab-same n f g (λ i h. same i (omega arith))) (same n (omega arith))
+
+  -- the first n elements of a list, by index
+  pub tab-getD : (n : ℕ) (xs : List A) (d : A) → n ≤ length xs → tab n (λ i. getD xs i d) ≡ take n xs
+  tab-getD zero xs d h = refl
+  tab-getD (suc n) xs d h = rw (take-suc xs n d h, tab-getD n xs d (omega arith))
+
+  tab-add : (m n : ℕ) (f : ℕ → A) → tab (m + n) f ≡ tab m f ++ tab n (λ j. f (m + j))
+  tab-add m zero f = rw (add-zero m) (sym (append-nil (tab m f)))
+  tab-add m (suc n) f = rw (add-suc m n, tab-add m n f) (append-assoc (tab m f) (tab n (λ j. f (m + j))) (f (m + n) ∷ []))
+
+  -- values by index are their parts of k, one after another
+  pub tab-parts : (n k : ℕ) (f : ℕ → A) → tab (n * k) f ≡ tabs n (λ t. tab k (λ j. f (t * k + j)))
+  tab-parts zero k f = rw (zero-mul k)
+  tab-parts (suc n) k f = rw (suc-mul n k, tab-add (n * k) k f, tab-parts n k f)
+
+  pub tabs-same : (n : ℕ) (f g : ℕ → List A) → ((i : ℕ) → i < n → f i ≡ g i) → tabs n f ≡ tabs n g
+  tabs-same zero f g same = refl
+  tabs-same (suc n) f g same = ap₂ _++_ (tabs-same n f g (λ i h. same i (omega arith))) (same n (omega arith))
+
+  -- lists of one length k, one after another
+  module _ (k : ℕ) (f : ℕ → List A) where
+    pub length-tabs : (n : ℕ) → ((t : ℕ) → t < n → length (f t) ≡ k) → length (tabs n f) ≡ n * k
+    length-tabs zero long = sym (zero-mul k)
+    length-tabs (suc n) long =
+        rw (length-append (tabs n f) (f n), length-tabs n (λ t h. long t (omega arith)), long n (omega arith)) (sym (suc-mul n k))
+
+    pub getD-tabs : (n t j : ℕ) (d : A) → ((t : ℕ) → t < n → length (f t) ≡ k) → t < n → j < k → getD (tabs n f) (t * k + j) d ≡ getD (f t) j d
+    getD-tabs zero t j d long in-list in-part = absurd (omega arith)
+    getD-tabs (suc n) t j d long in-list in-part =
+        let before = length-tabs n (λ i h. long i (omega arith)) in
+        by-order t n
+        (λ below.
+        let inside : t * k + j < n * k = digits-lt below in-part in
+        List·getD-append (tabs n f) (f n) d (t * k + j) (rw before inside) ∙ getD-tabs n t j d (λ i h. long i (omega arith)) below in-part)
+        (λ above. let last : t ≡ n = omega arith in rw (last, ← before) (getD-append-add (tabs n f) (f n) j d))
+
+  -- a list is its parts of k, and the rest
+  pub parts : (n k : ℕ) (xs : List A) → tabs n (λ t. take k (drop (t * k) xs)) ++ drop (n * k) xs ≡ xs
+  parts zero k xs = rw (zero-mul k)
+  parts (suc n) k xs =
+      rw (append-assoc (tabs n (λ t. take k (drop (t * k) xs))) (take k (drop (n * k) xs)) (drop (suc n * k) xs), suc-mul n k, ← drop-drop k (n * k) xs, take-append-drop k (drop (n * k) xs))
+      (parts n k xs)

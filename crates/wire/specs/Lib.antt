@@ -1,0 +1,5 @@
+pub mod Answers
+pub mod Numbers
+pub mod Fields
+pub mod Sync
+pub mod Lists
