@@ -2,13 +2,13 @@
 use mathlib.Core.Path.{_≡_, refl, sym, ap, ap₂, _∙_}
 use mathlib.Core.List.{List, [], _∷_}
 use Prim.Native.Nat.{ℕ, zero, suc, _+_, _*_, _/_, _%_, _^_, _<_}
-use native.Mathlib.Nat.{mul-assoc, mul-add-div-right, mul-add-mod-self-right, mod-one, mod-eq-of-lt, pow-suc, pow-succ', one-le-pow}
+use native.Mathlib.Nat.{mul-assoc, mul-add-div-right, mul-add-mod-self-right, mod-one, mod-eq-of-lt, pow-succ', one-le-pow}
 use native.Mathlib.Omega.{arith}
 use lib.Arith.{mod-mul, digits-lt, digits-div}
 use lib.IntN.{ℤ}
 use lib.ListN.{length, getD}
 use lib.Signed.{mag}
-use Rattle.wire.proofs.Signed.{back-to-number, back-to-pattern, unsignedBy-fits}
+use Rattle.wire.proofs.Signed.{back-to-number, back-to-pattern, pattern-fits}
 use Rattle.wire.specs.Numbers.{be, bytesOf, signedBy, unsignedBy, Bytes}
 
 some-bytes : (k : ℕ) → 0 < 256 ^ k
@@ -52,7 +52,7 @@ bytesOf-be (b ∷ bs) small =
 module _ (k half : ℕ) (whole : half + half ≡ 256 ^ k) where
   pub sample-back : (z : ℤ) → mag z < half → signedBy half (be (bytesOf k (unsignedBy (half + half) z))) ≡ z
   sample-back z fits =
-      let small : unsignedBy (half + half) z < half + half = unsignedBy-fits half z fits in
+      let small : unsignedBy (half + half) z < half + half = pattern-fits (half + half) z (omega arith) in
       rw (be-bytesOf k (unsignedBy (half + half) z), ← whole, mod-eq-of-lt small) (back-to-number half z fits)
 
   pub bytes-back : (bs : List ℕ) → length bs ≡ k → Bytes bs → bytesOf k (unsignedBy (half + half) (signedBy half (be bs))) ≡ bs

@@ -2,6 +2,7 @@
 pub mod Cases
 pub mod First
 pub mod Signed
+pub mod Machine
 pub mod Bytes
 pub mod Pack
 pub mod SyncCases

@@ -1,11 +1,11 @@
 -- A byte and its fields: the cases of `bits` that a function meets, and a byte put together again from its fields. Assumes nothing.
 use mathlib.Core.Path.{_≡_, refl, sym, ap, ap₂, _∙_}
 use mathlib.Core.List.{List, [], _∷_}
-use Prim.Native.Nat.{ℕ, zero, suc, _+_, _-_, _*_, _/_, _%_, _^_, _<_, _≤_}
-use native.Mathlib.Nat.{add-assoc, add-comm, zero-add, zero-mul, div-one, mod-one, zero-mod, div-eq-of-lt, mod-eq-of-lt, mul-assoc, mul-comm, add-mul, lt-of-lt-of-le, pow-succ'}
+use Prim.Native.Nat.{ℕ, suc, _+_, _-_, _*_, _/_, _%_, _^_, _<_, _≤_}
+use native.Mathlib.Nat.{add-assoc, add-comm, zero-mul, div-one, mod-one, div-eq-of-lt, mod-eq-of-lt, mul-assoc, add-mul, lt-of-lt-of-le, pow-succ'}
 use native.Mathlib.Omega.{arith}
 use lib.Arith.{digits-lt, digits-div, digits-mod}
-use lib.Pow.{pow-pos, pow-mono, pow-lt, pow-add, shr-shr, shr-le, shr-lt, high, low, split}
+use lib.Pow.{pow-mono, pow-lt, pow-add, shr-shr, shr-le, shr-lt, split}
 use Rattle.wire.specs.Fields.{bits, fieldsFrom, packFrom, fields, pack}
 
 module _ (c hi lo : ℕ) where

@@ -59,9 +59,9 @@ module _ (half n : ℕ) where
         low-or-high (λ z. unsignedBy (half + half) z ≡ n) (λ q. mod-eq-of-lt h)
         (λ q. let r : half + half - suc n < half + half = omega arith in rw (mod-eq-of-lt r) (omega arith))
 
-pub unsignedBy-fits : (half : ℕ) (z : ℤ) → mag z < half → unsignedBy (half + half) z < half + half
-unsignedBy-fits half (pos n) h = mod-lt n (omega arith)
-unsignedBy-fits half (negsuc n) h = omega arith
+pub pattern-fits : (whole : ℕ) (z : ℤ) → 0 < whole → unsignedBy whole z < whole
+pattern-fits whole (pos n) h = mod-lt n h
+pattern-fits whole (negsuc n) h = omega arith
 
 -- .. and over every number in range
 pub back-to-number : (half : ℕ) (z : ℤ) → mag z < half → signedBy half (unsignedBy (half + half) z) ≡ z

@@ -1,7 +1,8 @@
 -- Document 01, "Nine refusals, in the order they are tested": their numbers, and the first that holds. Assumes nothing.
 use Prim.Native.Nat.{ℕ}
-use mathlib.Core.Bool.{Bool, cond}
+use mathlib.Core.Bool.{Bool, true, cond, _&&_}
 use mathlib.Core.List.{List, [], _∷_}
+use lib.Dec.{ltb}
 use Rattle.wire.specs.declared.Answer.{Answer}
 use Rattle.wire.specs.declared.Answer.the-variants.{Accepted, BadState, BadCount, Length, ShortBuffer, StreamFull, NoSync, Padding, Reserved, Range}
 
@@ -17,7 +18,11 @@ numberOf Padding = 7
 numberOf Reserved = 8
 numberOf Range = 9
 
--- a test, and the answer that it gives where it holds
+-- the nine refusals, in the order they are tested
+abbrev pub nine : List Answer
+nine = BadState ∷ BadCount ∷ Length ∷ ShortBuffer ∷ StreamFull ∷ NoSync ∷ Padding ∷ Reserved ∷ Range ∷ []
+
+-- a test, and the refusal that it gives where it holds
 pub record Test : Type 0 where
   pub holds : Bool
   pub answer : Answer
@@ -30,3 +35,11 @@ test gives refusal = record { holds = test; answer = refusal }
 abbrev pub first : List Test → Answer
 first [] = Accepted
 first (t ∷ ts) = cond (t .holds) (t .answer) (first ts)
+
+-- a call's tests stand in the order of the nine: each has a higher number than the one before it
+abbrev pub above : ℕ → List Test → Bool
+above k [] = true
+above k (t ∷ ts) = ltb k (numberOf (t .answer)) && above (numberOf (t .answer)) ts
+
+abbrev pub inOrder : List Test → Bool
+inOrder ts = above 0 ts

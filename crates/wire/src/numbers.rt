@@ -62,8 +62,7 @@ pub fn sample24(a: u8, b: u8, c: u8) -> i32
 pub fn bytes_of_sample16(x: i16) -> [u8; 2]
     ensures { λ r. ⌜ r ≡ bytesOf 2 (unsigned 16 x) ⌝ }
 {
-    let n = pattern(x as i32, 0x1_0000);
-    [(n / 256 % 256) as u8, (n % 256) as u8]
+    bytes_of_u16(pattern(x as i32, 0x1_0000) as u16)
 }
 
 // The three bytes hold x where it fits, and its lowest 24 bits where it does not.

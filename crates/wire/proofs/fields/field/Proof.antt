@@ -2,7 +2,6 @@
 use mathlib.Core.Path.{sym}
 use Prim.Native.Nat.{_+_, _-_}
 use native.Mathlib.Nat.{zero-mod}
-use native.Mathlib.Omega.{arith}
 use borrow.Author.Needs.{needs}
 use lib.Pow.{pow-pos}
 use Rattle.wire.proofs.Pack.{no-bits, past-byte, all-bits, modulus}

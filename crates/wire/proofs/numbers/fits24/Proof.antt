@@ -1,6 +1,4 @@
 -- `numbers::fits24` meets its contract: the two ends of the range. Assumes nothing.
-use mathlib.Core.Path.{_≡_}
-use borrow.Author.Needs.{needs}
 use mir.Facts.{toZ-ofZ}
 use Rattle.wire.proofs.Signed.{under-range, over-range}
 use Rattle.wire.proofs.numbers.fits24.Statement.{statement}

@@ -1,6 +1,5 @@
 -- `numbers::sample16` meets its contract: `signed` at 16 bits. Assumes nothing.
 use mathlib.Core.Path.{_≡_, ap, _∙_}
-use native.Mathlib.Omega.{arith}
 use borrow.Author.Needs.{needs}
 use mir.Facts.{toZ-ofZ}
 use mir.Syntax.{w16, w32}

@@ -1,5 +1,5 @@
 -- `numbers::sample24` meets its contract: `signed` at 24 bits. Assumes nothing.
-use mathlib.Core.Path.{_≡_, ap, _∙_}
+use mathlib.Core.Path.{ap, _∙_}
 use borrow.Author.Needs.{needs}
 use mir.Facts.{toZ-ofZ}
 use Rattle.wire.specs.Numbers.{signedBy}

@@ -1,0 +1,3 @@
+-- The table's rule, and where the samples of a slot stand.
+pub mod Table
+pub mod Places
