@@ -1,4 +1,4 @@
--- Where the samples of n receivers stand in a frame, over n. Assumes nothing.
+-- Where the samples of n receivers stand in a payload, over n. Assumes nothing.
 use mathlib.Core.Path.{_≡_}
 use Prim.Native.Nat.{ℕ, _+_, _*_, _/_, _<_, _≤_}
 use native.Mathlib.Nat.{div-add-mod', mod-lt, div-lt-iff-lt-mul, mul-comm, mul-le-mul-left, mul-le-mul-right, suc-mul}
@@ -31,7 +31,7 @@ module _ (n : ℕ) where
 
   module _ (t j : ℕ) (inside : j < 2 * n) where
     -- value j of slot t
-    pub place-in-slot : iqPlace n (t * (2 * n) + j) ≡ 8 + t * slot n + 3 * j
+    pub place-in-slot : iqPlace n (t * (2 * n) + j) ≡ t * slot n + 3 * j
     place-in-slot = rw (digits-div t inside, digits-mod t inside)
 
   pub slot-of-value : (k : ℕ) → 0 < n → k < values n → k / (2 * n) < slots n
@@ -39,11 +39,11 @@ module _ (n : ℕ) where
       div-lt-iff-lt-mul {k = 2 * n} {x = k} {y = slots n} (omega arith) .1 (rw (mul-comm (slots n) (2 * n)) below)
 
   -- the three bytes of a value, and the two of the microphone, are inside the slots
-  pub iq-inside : (k : ℕ) → 0 < n → k < values n → iqPlace n k + 3 ≤ 8 + slots n * slot n
+  pub iq-inside : (k : ℕ) → 0 < n → k < values n → iqPlace n k + 3 ≤ slots n * slot n
   iq-inside k some below =
       let in-slots = slot-inside (k / (2 * n)) (slot-of-value k some below) in
       let in-slot = mod-lt k {m = 2 * n} (omega arith) in
       omega arith
 
-  pub mic-inside : (t : ℕ) → t < slots n → micPlace n t + 2 ≤ 8 + slots n * slot n
+  pub mic-inside : (t : ℕ) → t < slots n → micPlace n t + 2 ≤ slots n * slot n
   mic-inside t below = let h = slot-inside t below in omega arith

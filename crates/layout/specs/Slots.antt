@@ -31,9 +31,9 @@ lookup n = cond (counted n) (Of (rowOf n)) BadCount
 abbrev pub values : ℕ → ℕ
 values n = 2 * n * slots n
 
--- the byte of the frame where I or Q value k begins, and where microphone value t does
+-- the byte of the payload where I or Q value k begins, and where microphone value t does
 abbrev pub iqPlace : ℕ → ℕ → ℕ
-iqPlace n k = 8 + k / (2 * n) * slot n + 3 * (k % (2 * n))
+iqPlace n k = k / (2 * n) * slot n + 3 * (k % (2 * n))
 
 abbrev pub micPlace : ℕ → ℕ → ℕ
-micPlace n t = 8 + t * slot n + 6 * n
+micPlace n t = t * slot n + 6 * n

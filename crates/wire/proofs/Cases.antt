@@ -1,6 +1,6 @@
 -- A proof by cases on a test, or on which of two numbers is the lower. Assumes nothing.
 use mathlib.Core.Path.{_≡_, refl}
-use mathlib.Core.Bool.{Bool, true, false}
+use mathlib.Core.Bool.{Bool, true, false, _&&_, _||_, true≢false, false≢true}
 use Prim.Native.Nat.{ℕ, _<_, _≤_}
 use borrow.Author.Tests.{ltb-true, ltb-false}
 use lib.Dec.{ltb}
@@ -12,3 +12,12 @@ module _ {P : Type 0} where
 
   pub by-order : (m n : ℕ) → (m < n → P) → (n ≤ m → P) → P
   by-order m n below above = by-test (ltb m n) (λ e. below (ltb-true m n e)) (λ e. above (ltb-false m n e))
+
+-- the two halves of a conjunction that holds, and of an alternative that does not
+pub both-true : (a b : Bool) → a && b ≡ true → (a ≡ true) × (b ≡ true)
+both-true true b e = (refl, e)
+both-true false b e = absurd (false≢true e)
+
+pub neither : (a b : Bool) → (a || b) ≡ false → (a ≡ false) × (b ≡ false)
+neither true b e = absurd (true≢false e)
+neither false b e = (refl, e)

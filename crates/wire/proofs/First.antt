@@ -1,15 +1,15 @@
 -- The first test that holds: its two cases, and what an accepted call knows of every test. Assumes nothing.
 use mathlib.Core.Path.{_≡_, refl, sym, ap, _∙_}
-use mathlib.Core.Bool.{Bool, true, false, _&&_, true≢false}
+use mathlib.Core.Bool.{true, false}
 use mathlib.Core.List.{List, [], _∷_, map}
 use Prim.Native.Nat.{ℕ}
 use native.Mathlib.Omega.{arith}
 use borrow.Author.Tests.{ltb-true}
 use lib.Dec.{ltb}
-use Rattle.wire.proofs.Cases.{by-test}
+use Rattle.wire.proofs.Cases.{by-test, both-true}
 use Rattle.wire.specs.Answers.{Test, _gives_, first, numberOf, nine, above, inOrder}
 use Rattle.wire.specs.declared.Answer.{Answer}
-use Rattle.wire.specs.declared.Answer.the-variants.{Accepted}
+use Rattle.wire.specs.declared.Answer.the-variants.{Accepted, BadState, BadCount, Length, ShortBuffer, StreamFull, NoSync, Padding, Reserved, Range}
 
 module _ (t : Test) (ts : List Test) where
   pub first-here : t .holds ≡ true → first (t ∷ ts) ≡ t .answer
@@ -26,10 +26,6 @@ None (t ∷ ts) = (t .holds ≡ false) × None ts
 pub none-accepted : (ts : List Test) → None ts → first ts ≡ Accepted
 none-accepted [] n = refl
 none-accepted (t ∷ ts) n = first-later t ts (n .0) ∙ none-accepted ts (n .1)
-
-both-true : (a b : Bool) → a && b ≡ true → (a ≡ true) × (b ≡ true)
-both-true true b e = (refl, e)
-both-true false b e = absurd (true≢false (sym e))
 
 not-accepted : (k : ℕ) (a : Answer) → ltb k (numberOf a) ≡ true → a ≡ Accepted → ⊥
 not-accepted k a h e = let low : numberOf a ≡ 0 = ap numberOf e in let some = ltb-true k (numberOf a) h in omega arith
@@ -49,3 +45,16 @@ accepted-none ts order e = none-above 0 ts order e
 -- the table of nine has its numbers in order
 pub nine-in-order : inOrder (map (λ refusal. true gives refusal) nine) ≡ true
 nine-in-order = refl
+
+-- 0 is the number of no refusal
+pub only-accepted : (a : Answer) → numberOf a ≡ 0 → a ≡ Accepted
+only-accepted Accepted e = refl
+only-accepted BadState e = absurd (omega arith)
+only-accepted BadCount e = absurd (omega arith)
+only-accepted Length e = absurd (omega arith)
+only-accepted ShortBuffer e = absurd (omega arith)
+only-accepted StreamFull e = absurd (omega arith)
+only-accepted NoSync e = absurd (omega arith)
+only-accepted Padding e = absurd (omega arith)
+only-accepted Reserved e = absurd (omega arith)
+only-accepted Range e = absurd (omega arith)

@@ -7,3 +7,4 @@ pub mod Bytes
 pub mod Pack
 pub mod SyncCases
 pub mod Lists
+pub mod Fill

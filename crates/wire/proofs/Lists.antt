@@ -1,15 +1,15 @@
 -- Lists by index, and lists one after another. Assumes nothing.
-use mathlib.Core.Path.{_≡_, refl, sym, ap₂, _∙_}
+use mathlib.Core.Path.{_≡_, refl, sym, ap, ap₂, _∙_}
 use mathlib.Core.List.{List, [], _∷_, _++_, append-assoc, append-nil}
 use Prim.Native.Nat.{ℕ, zero, suc, _+_, _*_, _<_, _≤_}
 use native.Mathlib.Omega.{arith}
 use lib.Arith.{digits-lt}
 use lib.ListN.{length, getD, take, drop, set, length-append, length-drop, take-append-drop, List·getD-append}
-use lib.Seq.{drop-cons, drop-drop, take-suc, set-at, getD-at, getD-append-add}
-use native.Mathlib.Nat.{add-zero, add-suc, zero-mul, suc-mul}
+use lib.Seq.{length-take-le, take-at, drop-at, drop-cons, drop-drop, take-suc, set-at, getD-at, getD-append-add}
+use native.Mathlib.Nat.{zero-add, suc-add, add-zero, add-suc, zero-mul, suc-mul}
 use native.Mathlib.Numerals.{add-one}
 use Rattle.wire.proofs.Cases.{by-order}
-use Rattle.wire.specs.Lists.{tab, over, tabs}
+use Rattle.wire.specs.Lists.{tab, over, overAt, tabs}
 
 module _ {A : Type 0} where
   pub length-tab : (n : ℕ) (f : ℕ → A) → length (tab n f) ≡ n
@@ -31,20 +31,47 @@ module _ {A : Type 0} where
   pub length-over : (n : ℕ) (f : ℕ → A) (xs : List A) → n ≤ length xs → length (over n f xs) ≡ length xs
   length-over n f xs h = rw (length-append (tab n f) (drop n xs), length-tab n f, length-drop n xs) (omega arith)
 
+  tab-add : (m n : ℕ) (f : ℕ → A) → tab (m + n) f ≡ tab m f ++ tab n (λ j. f (m + j))
+  tab-add m zero f = rw (add-zero m) (sym (append-nil (tab m f)))
+  tab-add m (suc n) f = rw (add-suc m n, tab-add m n f) (append-assoc (tab m f) (tab n (λ j. f (m + j))) (f (m + n) ∷ []))
+
+  set-past : (p ys : List A) (i : ℕ) (a : A) → set (p ++ ys) (length p + i) a ≡ p ++ set ys i a
+  set-past [] ys i a = rw (zero-add i)
+  set-past (x ∷ p) ys i a = rw (suc-add (length p) i) (ap (λ l. x ∷ l) (set-past p ys i a))
+
+  module _ (at n : ℕ) (f : ℕ → A) (xs : List A) where
+    pub length-overAt : at + n ≤ length xs → length (overAt at n f xs) ≡ length xs
+    length-overAt h =
+        let rest : n ≤ length (drop at xs) = rw (length-drop at xs) (omega arith) in
+        rw (length-append (take at xs) (over n f (drop at xs)), length-over n f (drop at xs) rest, length-take-le at xs (omega arith), length-drop at xs)
+        (omega arith)
+
+    pub overAt-more : at + n < length xs → set (overAt at n f xs) (at + n) (f n) ≡ overAt at (n + 1) f xs
+    overAt-more h =
+        let rest : n < length (drop at xs) = rw (length-drop at xs) (omega arith) in
+        let before : length (take at xs) ≡ at = length-take-le at xs (omega arith) in
+        ap (λ k. set (overAt at n f xs) (k + n) (f n)) (sym before) ∙ set-past (take at xs) (over n f (drop at xs)) n (f n)
+        ∙ ap (λ l. take at xs ++ l) (over-more n f (drop at xs) rest)
+
+    -- values written after those that stand before them
+    pub over-then : at + n ≤ length xs → overAt at n (λ j. f (at + j)) (over at f xs) ≡ over (at + n) f xs
+    over-then h =
+        rw (take-at (tab at f) (drop at xs) at (length-tab at f), drop-at (tab at f) (drop at xs) at (length-tab at f), drop-drop n at xs)
+        (sym (append-assoc (tab at f) (tab n (λ j. f (at + j))) (drop (at + n) xs)) ∙ ap (λ l. l ++ drop (at + n) xs) (sym (tab-add at n f)))
+
   -- equal at each index below n
   pub tab-same : (n : ℕ) (f g : ℕ → A) → ((i : ℕ) → i < n → f i ≡ g i) → tab n f ≡ tab n g
   tab-same zero f g same = refl
   tab-same (suc n) f g same =
       ap₂ (λ l a. l ++ (a ∷ [])) (tab-same n f g (λ i h. same i (omega arith))) (same n (omega arith))
 
+  pub overAt-same : (at n : ℕ) (f g : ℕ → A) (xs : List A) → ((i : ℕ) → i < n → f i ≡ g i) → overAt at n f xs ≡ overAt at n g xs
+  overAt-same at n f g xs same = ap (λ l. take at xs ++ (l ++ drop n (drop at xs))) (tab-same n f g same)
+
   -- the first n elements of a list, by index
   pub tab-getD : (n : ℕ) (xs : List A) (d : A) → n ≤ length xs → tab n (λ i. getD xs i d) ≡ take n xs
   tab-getD zero xs d h = refl
   tab-getD (suc n) xs d h = rw (take-suc xs n d h, tab-getD n xs d (omega arith))
-
-  tab-add : (m n : ℕ) (f : ℕ → A) → tab (m + n) f ≡ tab m f ++ tab n (λ j. f (m + j))
-  tab-add m zero f = rw (add-zero m) (sym (append-nil (tab m f)))
-  tab-add m (suc n) f = rw (add-suc m n, tab-add m n f) (append-assoc (tab m f) (tab n (λ j. f (m + j))) (f (m + n) ∷ []))
 
   -- values by index are their parts of k, one after another
   pub tab-parts : (n k : ℕ) (f : ℕ → A) → tab (n * k) f ≡ tabs n (λ t. tab k (λ j. f (t * k + j)))

@@ -2,7 +2,7 @@
 use Prim.Native.Nat.{ℕ}
 use mathlib.Core.Bool.{Bool, true, cond, _&&_}
 use mathlib.Core.List.{List, [], _∷_}
-use lib.Dec.{ltb}
+use lib.Dec.{eqb, ltb}
 use Rattle.wire.specs.declared.Answer.{Answer}
 use Rattle.wire.specs.declared.Answer.the-variants.{Accepted, BadState, BadCount, Length, ShortBuffer, StreamFull, NoSync, Padding, Reserved, Range}
 
@@ -35,6 +35,9 @@ test gives refusal = record { holds = test; answer = refusal }
 abbrev pub first : List Test → Answer
 first [] = Accepted
 first (t ∷ ts) = cond (t .holds) (t .answer) (first ts)
+
+abbrev pub accepts : Answer → Bool
+accepts a = eqb (numberOf a) 0
 
 -- a call's tests stand in the order of the nine: each has a higher number than the one before it
 abbrev pub above : ℕ → List Test → Bool

@@ -1,0 +1,27 @@
+-- A word changes the fields it carries and no others: DOT, DASH and PTT follow every word, and whatever record a word is read
+-- into, the fields that it does not carry come out as they went in. Assumes nothing.
+use mathlib.Core.Path.{_≡_, refl}
+use Prim.Native.Nat.{ℕ}
+use Rattle.radio.specs.Carried.{fieldsOf, carries, unmarked}
+use Rattle.radio.specs.Words.{applied, dotOf, dashOf, pttOf}
+use Rattle.radio.specs.declared.record.Status.{Status}
+use Rattle.radio.specs.declared.words.Word.{Word}
+use Rattle.radio.specs.declared.words.Word.the-variants.{Input, Forward, Reverse, Supply, Board, Unlisted}
+
+pub others-unchanged : (w : Word) (c0 : ℕ) (s : Status) → unmarked (carries w) (fieldsOf (applied c0 w s)) ≡ unmarked (carries w) (fieldsOf s)
+unfolding applied
+others-unchanged (Input w) c0 s = refl
+others-unchanged (Forward l) c0 s = refl
+others-unchanged (Reverse l) c0 s = refl
+others-unchanged (Supply l) c0 s = refl
+others-unchanged (Board w) c0 s = refl
+others-unchanged (Unlisted a) c0 s = refl
+
+pub keys-follow : (w : Word) (c0 : ℕ) (s : Status) → (applied c0 w s .dot ≡ dotOf c0) × (applied c0 w s .dash ≡ dashOf c0) × (applied c0 w s .ptt ≡ pttOf c0)
+unfolding applied
+keys-follow (Input w) c0 s = (refl, refl, refl)
+keys-follow (Forward l) c0 s = (refl, refl, refl)
+keys-follow (Reverse l) c0 s = (refl, refl, refl)
+keys-follow (Supply l) c0 s = (refl, refl, refl)
+keys-follow (Board w) c0 s = (refl, refl, refl)
+keys-follow (Unlisted a) c0 s = (refl, refl, refl)

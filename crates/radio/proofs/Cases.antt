@@ -1,0 +1,95 @@
+-- What a read gives, case by case: the first test that holds, and what an accepted frame passed. Assumes nothing.
+use mathlib.Core.Path.{_≡_, refl, sym, _∙_}
+use mathlib.Core.Bool.{true, false}
+use mathlib.Core.List.{List}
+use Prim.Native.Nat.{ℕ, _<_, _≤_}
+use borrow.Author.Tests.{eq-eqb, ne-eqb, lt-ltb, le-ltb, eqb-true, ltb-false, not-false}
+use lib.Dec.{ltb}
+use lib.IntN.{ℤ}
+use lib.ListN.{length}
+use Rattle.wire.specs.Answers.{accepts, inOrder}
+use Rattle.wire.specs.Sync.{syncAt}
+use Rattle.wire.specs.declared.Answer.{Answer}
+use Rattle.wire.specs.declared.Answer.the-variants.{Accepted, BadCount, Length, ShortBuffer, NoSync, Padding}
+use Rattle.wire.proofs.Cases.{neither}
+use Rattle.wire.proofs.First.{accepted-none}
+use Rattle.layout.specs.Slots.{counted, slots, values}
+use Rattle.radio.specs.Read.{tests, frameAnswer, padded, answerOf, taken, refused, gave, readOf}
+use Rattle.radio.specs.declared.Reading.{Reading}
+use Rattle.radio.specs.declared.record.Status.{Status}
+
+-- the refusals of `read` stand in the order of the nine
+pub read-in-order : (frame : List ℕ) (n iq mic : ℕ) → inOrder (tests frame n iq mic) ≡ true
+read-in-order frame n iq mic = refl
+
+module _ (frame : List ℕ) (n iq mic : ℕ) where
+  pub wrong-length : (length frame ≡ 512 → ⊥) → frameAnswer frame n iq mic ≡ Length
+  unfolding frameAnswer
+  wrong-length other = rw (ne-eqb _ _ other)
+
+  module _ (long : length frame ≡ 512) where
+    pub few-values : iq < values n → frameAnswer frame n iq mic ≡ ShortBuffer
+    unfolding frameAnswer
+    few-values short = rw (eq-eqb _ _ long, lt-ltb _ _ short)
+
+    module _ (iq-room : values n ≤ iq) where
+      pub few-slots : mic < slots n → frameAnswer frame n iq mic ≡ ShortBuffer
+      unfolding frameAnswer
+      few-slots short = rw (eq-eqb _ _ long, le-ltb _ _ iq-room, lt-ltb _ _ short)
+
+      module _ (mic-room : slots n ≤ mic) where
+        pub no-sync : syncAt frame 0 ≡ false → frameAnswer frame n iq mic ≡ NoSync
+        unfolding frameAnswer
+        no-sync missing = rw (eq-eqb _ _ long, le-ltb _ _ iq-room, le-ltb _ _ mic-room, missing)
+
+        pub bad-padding : syncAt frame 0 ≡ true → padded n frame ≡ false → frameAnswer frame n iq mic ≡ Padding
+        unfolding frameAnswer
+        bad-padding synced dirty = rw (eq-eqb _ _ long, le-ltb _ _ iq-room, le-ltb _ _ mic-room, synced, dirty)
+
+        pub all-good : syncAt frame 0 ≡ true → padded n frame ≡ true → frameAnswer frame n iq mic ≡ Accepted
+        unfolding frameAnswer
+        all-good synced clean = rw (eq-eqb _ _ long, le-ltb _ _ iq-room, le-ltb _ _ mic-room, synced, clean)
+
+  -- what an accepted frame passed
+  pub record Good : Type 0 where
+    pub is-counted : counted n ≡ true
+    pub long : length frame ≡ 512
+    pub iq-room : values n ≤ iq
+    pub mic-room : slots n ≤ mic
+    pub synced : syncAt frame 0 ≡ true
+    pub clean : padded n frame ≡ true
+
+  pub good : answerOf frame n iq mic ≡ Accepted → Good
+  unfolding answerOf
+  good e =
+      let none = accepted-none (tests frame n iq mic) refl e in
+      let room = neither (ltb iq (values n)) (ltb mic (slots n)) (none .1 .1 .0) in
+      record {
+        is-counted = not-false _ (none .0);
+        long = eqb-true _ _ (not-false _ (none .1 .0));
+        iq-room = ltb-false _ _ (room .0);
+        mic-room = ltb-false _ _ (room .1);
+        synced = not-false _ (none .1 .1 .1 .0);
+        clean = not-false _ (none .1 .1 .1 .1 .0);
+      }
+
+  pub bad-count : counted n ≡ false → answerOf frame n iq mic ≡ BadCount
+  unfolding answerOf
+  bad-count other = rw other
+
+  pub answer-counted : counted n ≡ true → answerOf frame n iq mic ≡ frameAnswer frame n iq mic
+  unfolding answerOf frameAnswer
+  answer-counted is = rw is
+
+module _ (frame : List ℕ) (n : ℕ) (iq mic : List ℤ) (s : Status) where
+  pub read-refused : (a : Answer) → answerOf frame n (length iq) (length mic) ≡ a → accepts a ≡ false → readOf frame n iq mic s ≡ refused a iq mic s
+  unfolding readOf
+  read-refused a is not-accepted = rw (is, not-accepted)
+
+  pub read-taken : answerOf frame n (length iq) (length mic) ≡ Accepted → readOf frame n iq mic s ≡ taken frame n iq mic s
+  unfolding readOf
+  read-taken is = rw is
+
+  -- an accepted read gives what its parts were each shown to be
+  pub read-gives : answerOf frame n (length iq) (length mic) ≡ Accepted → (r : Reading) (iq′ mic′ : List ℤ) → r ≡ taken frame n iq mic s .reading → iq′ ≡ taken frame n iq mic s .iq → mic′ ≡ taken frame n iq mic s .mic → gave r iq′ mic′ ≡ readOf frame n iq mic s
+  read-gives is r iq′ mic′ reading-is iq-is mic-is = (λ i. gave (reading-is i) (iq-is i) (mic-is i)) ∙ sym (read-taken is)

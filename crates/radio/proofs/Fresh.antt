@@ -1,0 +1,33 @@
+-- "A fresh status record is what all-zero words give": five frames, one for each word, whose bytes C1 to C4 are 0 and whose keys
+-- are off, read into any record, leave the fresh one. Assumes nothing.
+use mathlib.Core.Path.{_≡_, refl}
+use mathlib.Core.List.{List}
+use Prim.Native.Nat.{ℕ, _*_, _<_}
+use native.Mathlib.Omega.{arith}
+use Rattle.radio.specs.Read.{byte, after}
+use Rattle.radio.specs.Record.{freshStatus}
+use Rattle.radio.specs.Words.{wordOf, applied}
+use Rattle.radio.specs.declared.record.Status.{Status}
+
+-- word w, all zero; the address stands above bit 2 of C0
+pub record ZeroWord (w : ℕ) (frame : List ℕ) : Type 0 where
+  pub c0 : byte frame 3 ≡ w * 8
+  pub c1 : byte frame 4 ≡ 0
+  pub c2 : byte frame 5 ≡ 0
+  pub c3 : byte frame 6 ≡ 0
+  pub c4 : byte frame 7 ≡ 0
+
+abbrev zeroed : ℕ → Status → Status
+zeroed w s = applied (w * 8) (wordOf (w * 8) 0 0 0 0) s
+
+after-zero : (w : ℕ) (frame : List ℕ) → ZeroWord w frame → (s : Status) → after frame s ≡ zeroed w s
+after-zero w frame z s = rw (z .c0, z .c1, z .c2, z .c3, z .c4)
+
+five-zeroed : (s : Status) → zeroed 4 (zeroed 3 (zeroed 2 (zeroed 1 (zeroed 0 s)))) ≡ freshStatus
+unfolding applied
+five-zeroed s = refl
+
+pub zero-words-give-fresh : (frames : ℕ → List ℕ) → ((w : ℕ) → w < 5 → ZeroWord w (frames w)) → (s : Status) → after (frames 4) (after (frames 3) (after (frames 2) (after (frames 1) (after (frames 0) s)))) ≡ freshStatus
+zero-words-give-fresh frames zero s =
+    rw (after-zero 0 (frames 0) (zero 0 (omega arith)) s, after-zero 1 (frames 1) (zero 1 (omega arith)), after-zero 2 (frames 2) (zero 2 (omega arith)), after-zero 3 (frames 3) (zero 3 (omega arith)), after-zero 4 (frames 4) (zero 4 (omega arith)))
+    (five-zeroed s)

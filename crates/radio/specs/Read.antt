@@ -1,0 +1,85 @@
+-- Reading a radio frame: the refusals in the order of document 01's table, and the whole outcome. Assumes nothing.
+use Prim.Native.Nat.{ℕ, _-_}
+use mathlib.Core.Bool.{Bool, true, cond, not, _&&_, _||_}
+use mathlib.Core.List.{List, [], _∷_}
+use lib.Dec.{eqb, ltb}
+use lib.IntN.{ℤ}
+use lib.ListN.{length, getD, drop}
+use Rattle.wire.specs.Answers.{Test, _gives_, first, accepts}
+use Rattle.wire.specs.Lists.{over}
+use Rattle.wire.specs.Sync.{syncAt}
+use Rattle.wire.specs.declared.Answer.{Answer}
+use Rattle.wire.specs.declared.Answer.the-variants.{Accepted, BadCount, Length, ShortBuffer, NoSync, Padding}
+use Rattle.layout.specs.Slots.{counted, slots, padding, values}
+use Rattle.radio.specs.Samples.{iqAt, micAt}
+use Rattle.radio.specs.Words.{wordOf, applied}
+use Rattle.radio.specs.declared.Reading.{Reading}
+use Rattle.radio.specs.declared.record.Status.{Status}
+use Rattle.radio.specs.declared.words.Word.{Word}
+use Rattle.radio.specs.declared.words.Word.the-variants.{Unlisted}
+
+-- "7F 7F 7F, then C0 to C4, then 504 bytes of payload"
+abbrev pub byte : List ℕ → ℕ → ℕ
+byte frame k = getD frame k 0
+
+abbrev pub payload : List ℕ → List ℕ
+payload frame = drop 8 frame
+
+abbrev pub word : List ℕ → Word
+word frame = wordOf (byte frame 3) (byte frame 4) (byte frame 5) (byte frame 6) (byte frame 7)
+
+-- the record after an accepted frame
+abbrev pub after : List ℕ → Status → Status
+after frame s = applied (byte frame 3) (word frame) s
+
+-- every byte is 0
+abbrev pub zeros : List ℕ → Bool
+zeros [] = true
+zeros (b ∷ bs) = eqb b 0 && zeros bs
+
+-- the padding is the end of the frame
+abbrev pub padded : ℕ → List ℕ → Bool
+padded n frame = zeros (drop (512 - padding n) frame)
+
+-- the tests of a frame for n receivers, with slices of the lengths iq and mic, and before them that of the count
+abbrev pub frameTests : List ℕ → ℕ → ℕ → ℕ → List Test
+frameTests frame n iq mic =
+    not (eqb (length frame) 512) gives Length
+    ∷ (ltb iq (values n) || ltb mic (slots n)) gives ShortBuffer
+    ∷ not (syncAt frame 0) gives NoSync
+    ∷ not (padded n frame) gives Padding
+    ∷ []
+
+unfoldable pub frameAnswer : List ℕ → ℕ → ℕ → ℕ → Answer
+frameAnswer frame n iq mic = first (frameTests frame n iq mic)
+
+abbrev pub tests : List ℕ → ℕ → ℕ → ℕ → List Test
+tests frame n iq mic = not (counted n) gives BadCount ∷ frameTests frame n iq mic
+
+-- what a read leaves: what it gave, and the two slices at exit
+pub record Outcome : Type 0 where
+  pub reading : Reading
+  pub iq : List ℤ
+  pub mic : List ℤ
+
+abbrev pub gave : Reading → List ℤ → List ℤ → Outcome
+gave r iq mic = record { reading = r; iq = iq; mic = mic }
+
+-- a refusal writes nothing, returns the record given and the word unlisted 0
+abbrev pub refused : Answer → List ℤ → List ℤ → Status → Outcome
+refused a iq mic s = gave (record { answer = a; word = Unlisted 0; status = s }) iq mic
+
+-- an accepted frame: its word, the record after it, and every sample at the start of its slice
+abbrev pub taken : List ℕ → ℕ → List ℤ → List ℤ → Status → Outcome
+taken frame n iq mic s =
+    gave (record { answer = Accepted; word = word frame; status = after frame s })
+    (over (values n) (iqAt n (payload frame)) iq)
+    (over (slots n) (micAt n (payload frame)) mic)
+
+unfoldable pub answerOf : List ℕ → ℕ → ℕ → ℕ → Answer
+answerOf frame n iq mic = first (tests frame n iq mic)
+
+unfoldable pub readOf : List ℕ → ℕ → List ℤ → List ℤ → Status → Outcome
+readOf frame n iq mic s =
+    let answer = answerOf frame n (length iq) (length mic) in
+    cond (accepts answer) (taken frame n iq mic s) (refused answer iq mic s)

@@ -1,0 +1,115 @@
+// Frames from the radio: one frame read into lent slices of samples and a status record.
+//
+// `read` is the call. It takes what it is given: a receiver count, a frame, two slices and a record of
+// any kind. It answers one of its refusals and leaves all as it was, or reads every sample of the frame,
+// says which word came, and hands back the record with that word's fields in it.
+pub mod record;
+pub mod samples;
+pub mod words;
+
+use crate::record::Status;
+use crate::words::Word;
+use layout::Layout;
+use layout::Row;
+use wire::Answer;
+ghost use mathlib.Core.Path.{_≡_};
+ghost use Prim.Native.Nat.{_≤_};
+ghost use lib.ListN.{length};
+ghost use Rattle.wire.specs.declared.Answer.the-variants.{Accepted};
+ghost use Rattle.layout.specs.Slots.{rowOf};
+ghost use Rattle.radio.specs.Read.{readOf, gave, frameAnswer, byte, word, zeros};
+ghost use Rattle.radio.specs.Words.{applied};
+ghost use Rattle.radio.specs.declared.words.Word.the-variants.{Unlisted};
+
+// What a read gives: the answer, the word that came, and the record after it. Refused, the word is
+// unlisted 0 and the record is the one given.
+pub struct Reading {
+    pub answer: Answer,
+    pub word: Word,
+    pub status: Status,
+}
+
+// Reads a frame for a number of receivers: I and Q values in slot order at the start of `iq`, one
+// microphone value a slot at the start of `mic`. Longer slices keep their remainder. Its refusals, in order:
+// BAD_COUNT, LENGTH, SHORT_BUFFER, NO_SYNC, PADDING.
+pub fn read(
+    frame: &[u8],
+    receivers: usize,
+    iq: &mut [i32],
+    mic: &mut [i16],
+    status: Status,
+) -> Reading
+    ensures { λ r. ⌜ gave r (now (iq .exit)) (now (mic .exit)) ≡ readOf (now (frame .entry)) receivers (now (iq .entry)) (now (mic .entry)) status ⌝ }
+{
+    let Layout::Of(row) = layout::row_of(receivers) else {
+        return refused(Answer::BadCount, status);
+    };
+    let answer = refusal(frame, receivers, row, iq.len(), mic.len());
+    if wire::number(answer) != 0 {
+        return refused(answer, status);
+    }
+    samples::read_samples(&frame[8..], receivers, row, iq, mic);
+    accepted(frame, status)
+}
+
+fn refused(answer: Answer, status: Status) -> Reading
+    ensures { λ r. ⌜ r ≡ record { answer = answer; word = Unlisted 0; status = status } ⌝ }
+{
+    Reading {
+        answer,
+        word: Word::Unlisted(0),
+        status,
+    }
+}
+
+pub(crate) fn accepted(frame: &[u8], status: Status) -> Reading
+    requires { ⌜ 8 ≤ length (now frame) ⌝ }
+    ensures { λ r. ⌜ r ≡ record { answer = Accepted; word = word (now (frame .entry)); status = applied (byte (now (frame .entry)) 3) (word (now (frame .entry))) status } ⌝ }
+{
+    let word = words::decode(frame[3], frame[4], frame[5], frame[6], frame[7]);
+    Reading {
+        answer: Answer::Accepted,
+        word,
+        status: words::apply(status, frame[3], word),
+    }
+}
+
+// The first test of a frame that holds, once the receiver count has its row.
+pub(crate) fn refusal(frame: &[u8], receivers: usize, row: Row, iq: usize, mic: usize) -> Answer
+    requires { ⌜ (receivers ≤ 8) × (row ≡ rowOf receivers) ⌝ }
+    ensures { λ r. ⌜ r ≡ frameAnswer (now (frame .entry)) receivers iq mic ⌝ }
+{
+    let slots = row.slots;
+    let start = 512 - row.padding;
+    if frame.len() != 512 {
+        return Answer::Length;
+    }
+    if iq < 2 * receivers * slots {
+        return Answer::ShortBuffer;
+    }
+    if mic < slots {
+        return Answer::ShortBuffer;
+    }
+    if wire::sync::sync_at(frame, 0) {
+        if all_zero(&frame[start..]) {
+            Answer::Accepted
+        } else {
+            Answer::Padding
+        }
+    } else {
+        Answer::NoSync
+    }
+}
+
+pub(crate) fn all_zero(part: &[u8]) -> bool
+    ensures { λ r. ⌜ r ≡ zeros (now (part .entry)) ⌝ }
+{
+    let mut i = 0;
+    while i < part.len() {
+        if part[i] != 0 {
+            return false;
+        }
+        i += 1;
+    }
+    true
+}
