@@ -1,6 +1,6 @@
 -- Reading a radio frame: the refusals in the order of document 01's table, and the whole outcome. Assumes nothing.
 use Prim.Native.Nat.{ℕ, _-_}
-use mathlib.Core.Bool.{Bool, true, cond, not, _&&_, _||_}
+use mathlib.Core.Bool.{Bool, cond, not, _||_}
 use mathlib.Core.List.{List, [], _∷_}
 use lib.Dec.{eqb, ltb}
 use lib.IntN.{ℤ}
@@ -8,6 +8,7 @@ use lib.ListN.{length, getD, drop}
 use Rattle.wire.specs.Answers.{Test, _gives_, first, accepts}
 use Rattle.wire.specs.Lists.{over}
 use Rattle.wire.specs.Sync.{syncAt}
+use Rattle.wire.specs.Zeros.{allZero}
 use Rattle.wire.specs.declared.Answer.{Answer}
 use Rattle.wire.specs.declared.Answer.the-variants.{Accepted, BadCount, Length, ShortBuffer, NoSync, Padding}
 use Rattle.layout.specs.Slots.{counted, slots, padding, values}
@@ -32,14 +33,9 @@ word frame = wordOf (byte frame 3) (byte frame 4) (byte frame 5) (byte frame 6) 
 abbrev pub after : List ℕ → Status → Status
 after frame s = applied (byte frame 3) (word frame) s
 
--- every byte is 0
-abbrev pub zeros : List ℕ → Bool
-zeros [] = true
-zeros (b ∷ bs) = eqb b 0 && zeros bs
-
 -- the padding is the end of the frame
 abbrev pub padded : ℕ → List ℕ → Bool
-padded n frame = zeros (drop (512 - padding n) frame)
+padded n frame = allZero (drop (512 - padding n) frame)
 
 -- the tests of a frame for n receivers, with slices of the lengths iq and mic, and before them that of the count
 abbrev pub frameTests : List ℕ → ℕ → ℕ → ℕ → List Test

@@ -17,7 +17,7 @@ ghost use Prim.Native.Nat.{_≤_};
 ghost use lib.ListN.{length};
 ghost use Rattle.wire.specs.declared.Answer.the-variants.{Accepted};
 ghost use Rattle.layout.specs.Slots.{rowOf};
-ghost use Rattle.radio.specs.Read.{readOf, gave, frameAnswer, byte, word, zeros};
+ghost use Rattle.radio.specs.Read.{readOf, gave, frameAnswer, byte, word};
 ghost use Rattle.radio.specs.Words.{applied};
 ghost use Rattle.radio.specs.declared.words.Word.the-variants.{Unlisted};
 
@@ -91,7 +91,7 @@ pub(crate) fn refusal(frame: &[u8], receivers: usize, row: Row, iq: usize, mic: 
         return Answer::ShortBuffer;
     }
     if wire::sync::sync_at(frame, 0) {
-        if all_zero(&frame[start..]) {
+        if wire::zeros::all_zero(&frame[start..]) {
             Answer::Accepted
         } else {
             Answer::Padding
@@ -99,17 +99,4 @@ pub(crate) fn refusal(frame: &[u8], receivers: usize, row: Row, iq: usize, mic: 
     } else {
         Answer::NoSync
     }
-}
-
-pub(crate) fn all_zero(part: &[u8]) -> bool
-    ensures { λ r. ⌜ r ≡ zeros (now (part .entry)) ⌝ }
-{
-    let mut i = 0;
-    while i < part.len() {
-        if part[i] != 0 {
-            return false;
-        }
-        i += 1;
-    }
-    true
 }

@@ -4,10 +4,10 @@ use mathlib.Core.Bool.{true, false}
 use mathlib.Core.List.{List, [], _∷_, map}
 use Prim.Native.Nat.{ℕ}
 use native.Mathlib.Omega.{arith}
-use borrow.Author.Tests.{ltb-true}
+use borrow.Author.Tests.{ltb-true, eqb-true}
 use lib.Dec.{ltb}
 use Rattle.wire.proofs.Cases.{by-test, both-true}
-use Rattle.wire.specs.Answers.{Test, _gives_, first, numberOf, nine, above, inOrder}
+use Rattle.wire.specs.Answers.{Test, _gives_, first, numberOf, nine, above, inOrder, accepts}
 use Rattle.wire.specs.declared.Answer.{Answer}
 use Rattle.wire.specs.declared.Answer.the-variants.{Accepted, BadState, BadCount, Length, ShortBuffer, StreamFull, NoSync, Padding, Reserved, Range}
 
@@ -58,3 +58,6 @@ only-accepted NoSync e = absurd (omega arith)
 only-accepted Padding e = absurd (omega arith)
 only-accepted Reserved e = absurd (omega arith)
 only-accepted Range e = absurd (omega arith)
+
+pub accepts-only : (a : Answer) → accepts a ≡ true → a ≡ Accepted
+accepts-only a e = only-accepted a (eqb-true _ 0 e)

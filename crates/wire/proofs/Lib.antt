@@ -6,5 +6,6 @@ pub mod Machine
 pub mod Bytes
 pub mod Pack
 pub mod SyncCases
+pub mod AllZero
 pub mod Lists
 pub mod Fill

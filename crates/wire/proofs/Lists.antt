@@ -5,7 +5,7 @@ use Prim.Native.Nat.{ℕ, zero, suc, _+_, _*_, _<_, _≤_}
 use native.Mathlib.Omega.{arith}
 use lib.Arith.{digits-lt}
 use lib.ListN.{length, getD, take, drop, set, length-append, length-drop, take-append-drop, List·getD-append}
-use lib.Seq.{length-take-le, take-at, drop-at, drop-cons, drop-drop, take-suc, set-at, getD-at, getD-append-add}
+use lib.Seq.{sets, length-take-le, take-at, drop-at, drop-cons, drop-drop, take-suc, set-at, getD-at, getD-append-add}
 use native.Mathlib.Nat.{zero-add, suc-add, add-zero, add-suc, zero-mul, suc-mul}
 use native.Mathlib.Numerals.{add-one}
 use Rattle.wire.proofs.Cases.{by-order}
@@ -105,3 +105,10 @@ module _ {A : Type 0} where
   parts (suc n) k xs =
       rw (append-assoc (tabs n (λ t. take k (drop (t * k) xs))) (take k (drop (n * k) xs)) (drop (suc n * k) xs), suc-mul n k, ← drop-drop k (n * k) xs, take-append-drop k (drop (n * k) xs))
       (parts n k xs)
+
+  -- stores one after another, and all at once
+  pub sets-append : (out : List A) (at : ℕ) (a b : List A) → sets (sets out at a) (at + length a) b ≡ sets out at (a ++ b)
+  sets-append out at [] b = ap (λ n. sets out n b) (add-zero at)
+  sets-append out at (x ∷ a) b =
+      let moved : at + suc (length a) ≡ suc at + length a = omega arith in
+      rw moved (sets-append (set out at x) (suc at) a b)

@@ -5,6 +5,7 @@
 pub mod fields;
 pub mod numbers;
 pub mod sync;
+pub mod zeros;
 
 ghost use mathlib.Core.Path.{_≡_};
 ghost use Rattle.wire.specs.Answers.{numberOf};

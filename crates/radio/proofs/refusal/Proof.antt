@@ -7,7 +7,8 @@ use lib.ListN.{length, take, drop, length-drop}
 use lib.Seq.{take-all}
 use Rattle.layout.specs.Slots.{slots, padding, values}
 use Rattle.layout.proofs.Places.{whole-payload, few-values}
-use Rattle.radio.specs.Read.{zeros, padded}
+use Rattle.wire.specs.Zeros.{allZero}
+use Rattle.radio.specs.Read.{padded}
 use Rattle.radio.proofs.Cases as cases
 use borrow.Author.Needs.{needs}
 use Rattle.radio.proofs.refusal.Statement.{statement}
@@ -32,7 +33,7 @@ tested c =
     let frame = now (at-start .args .frame) in
     let from = 512 - at-start .args .row .padding in
     let whole : take (length frame - from) (drop from frame) ≡ drop from frame = take-all (length frame - from) (drop from frame) (rw (length-drop from frame) (omega arith)) in
-    c .all-zero .ensures ∙ ap zeros whole ∙ ap (λ k. zeros (drop (512 - k) frame)) (row-padding at-start)
+    c .all-zero .ensures ∙ ap allZero whole ∙ ap (λ k. allZero (drop (512 - k) frame)) (row-padding at-start)
 
 sub-start : tie.Need-sub-start
 sub-start c = rw (row-padding (c .before .before)) (omega (arith, whole-payload (c .before .before .args .receivers)))

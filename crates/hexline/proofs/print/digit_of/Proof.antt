@@ -1,0 +1,12 @@
+-- `print::digit_of` meets its contract: on, and off. Assumes nothing.
+use Rattle.hexline.proofs.print.digit_of.Statement.{statement}
+use Rattle.hexline.proofs.print.digit_of.Tie as tie
+
+returns : tie.Need-returns
+returns c = rw (c .if1 .taken)
+
+returns-2 : tie.Need-returns-2
+returns-2 c = rw (c .if1 .left)
+
+pub digit-of-spec : {M : Type 1} → statement M
+digit-of-spec = tie.close (tie.spec returns returns-2)

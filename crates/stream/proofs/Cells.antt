@@ -1,0 +1,29 @@
+-- Bytes at the start of cells that are zero past them: their parts, and writing on. Assumes nothing.
+use mathlib.Core.Path.{_≡_, refl}
+use mathlib.Core.List.{List, _++_}
+use Prim.Native.Nat.{ℕ, zero, suc, _+_, _-_, _≤_}
+use native.Mathlib.Omega.{arith}
+use lib.ListN.{length, take, drop, replicate, length-append, length-replicate}
+use lib.Seq.{take-at, drop-at, take-length, drop-append-add, paste}
+use Rattle.stream.specs.Record.{cells}
+
+drop-replicate : (k n a : ℕ) → drop k (replicate n a) ≡ replicate (n - k) a
+drop-replicate zero n a = let all : n - 0 ≡ n = omega arith in rw all
+drop-replicate (suc k) zero a = let none : 0 - suc k ≡ 0 = omega arith in rw none
+drop-replicate (suc k) (suc n) a = let less : suc n - suc k ≡ n - k = omega arith in rw less (drop-replicate k n a)
+
+module _ (n : ℕ) (s : List ℕ) where
+  pub length-cells : length s ≤ n → length (cells n s) ≡ n
+  length-cells fits = rw (length-append s (replicate (n - length s) 0), length-replicate {A = ℕ} (n - length s) 0) (omega arith)
+
+  pub take-cells : take (length s) (cells n s) ≡ s
+  take-cells = take-at s (replicate (n - length s) 0) (length s) refl
+
+  pub drop-cells : drop (length s) (cells n s) ≡ replicate (n - length s) 0
+  drop-cells = drop-at s (replicate (n - length s) 0) (length s) refl
+
+  -- written on, from the first cell that is free
+  pub put-cells : (t : List ℕ) → paste (cells n s) (length s) t (length t) ≡ cells n (s ++ t)
+  put-cells t =
+      let rest : n - length s - length t ≡ n - (length s + length t) = omega arith in
+      rw (take-cells, take-length t, drop-append-add s (replicate (n - length s) 0) (length t), drop-replicate (length t) (n - length s) 0, rest, length-append s t)

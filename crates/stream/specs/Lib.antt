@@ -1,0 +1,6 @@
+pub mod Reading
+pub mod Record
+pub mod Feed
+pub mod Run
+pub mod Damage
+pub mod Steps
