@@ -29,6 +29,11 @@ module _ (n : ℕ) where
       let h = mul-le-mul-left {m = 2 * n} {n = slot n} (slots n) (omega arith) in
       rw (mul-comm (2 * n) (slots n)) (omega arith)
 
+  -- the values of slot t are among all of them
+  pub values-inside : (t : ℕ) → t < slots n → t * (2 * n) + 2 * n ≤ values n
+  values-inside t below =
+      rw (mul-comm (2 * n) (slots n), ← suc-mul t (2 * n)) (mul-le-mul-right (2 * n) below)
+
   module _ (t j : ℕ) (inside : j < 2 * n) where
     -- value j of slot t
     pub place-in-slot : iqPlace n (t * (2 * n) + j) ≡ t * slot n + 3 * j

@@ -1,5 +1,5 @@
 -- What a read gives, case by case: the first test that holds, and what an accepted frame passed. Assumes nothing.
-use mathlib.Core.Path.{_≡_, refl, sym, _∙_}
+use mathlib.Core.Path.{_≡_, refl, sym, ap, _∙_}
 use mathlib.Core.Bool.{true, false}
 use mathlib.Core.List.{List}
 use Prim.Native.Nat.{ℕ, _<_, _≤_}
@@ -11,8 +11,8 @@ use Rattle.wire.specs.Answers.{accepts, inOrder}
 use Rattle.wire.specs.Sync.{syncAt}
 use Rattle.wire.specs.declared.Answer.{Answer}
 use Rattle.wire.specs.declared.Answer.the-variants.{Accepted, BadCount, Length, ShortBuffer, NoSync, Padding}
-use Rattle.wire.proofs.Cases.{neither}
-use Rattle.wire.proofs.First.{accepted-none}
+use Rattle.wire.proofs.Cases.{by-test, neither}
+use Rattle.wire.proofs.First.{accepted-none, accepts-only}
 use Rattle.layout.specs.Slots.{counted, slots, values}
 use Rattle.radio.specs.Read.{tests, frameAnswer, padded, answerOf, taken, refused, gave, readOf}
 use Rattle.radio.specs.declared.Reading.{Reading}
@@ -93,3 +93,8 @@ module _ (frame : List ℕ) (n : ℕ) (iq mic : List ℤ) (s : Status) where
   -- an accepted read gives what its parts were each shown to be
   pub read-gives : answerOf frame n (length iq) (length mic) ≡ Accepted → (r : Reading) (iq′ mic′ : List ℤ) → r ≡ taken frame n iq mic s .reading → iq′ ≡ taken frame n iq mic s .iq → mic′ ≡ taken frame n iq mic s .mic → gave r iq′ mic′ ≡ readOf frame n iq mic s
   read-gives is r iq′ mic′ reading-is iq-is mic-is = (λ i. gave (reading-is i) (iq-is i) (mic-is i)) ∙ sym (read-taken is)
+
+  pub read-accepted : readOf frame n iq mic s .reading .answer ≡ Accepted → answerOf frame n (length iq) (length mic) ≡ Accepted
+  read-accepted is =
+      let answer = answerOf frame n (length iq) (length mic) in
+      by-test (accepts answer) (accepts-only answer) (λ refusal. sym (ap (λ o. o .reading .answer) (read-refused answer refl refusal)) ∙ is)

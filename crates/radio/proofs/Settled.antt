@@ -1,10 +1,13 @@
--- Any two outcomes that the contract of a call admits coincide: the answer with its word and record, and both slices at exit.
+-- Any two outcomes that the contract of a call admits coincide: the answer with what comes back
+-- beside it, and every lent slice at exit.
 -- Assumes nothing.
 use mathlib.Core.Path.{_≡_, sym, ap, _∙_}
 use mathlib.Core.List.{List}
 use Prim.Native.Nat.{ℕ}
 use lib.IntN.{ℤ}
 use Rattle.radio.specs.Read.{readOf, gave}
+use Rattle.radio.specs.Write.{writeOf, gave as wrote}
+use Rattle.wire.specs.declared.Answer.{Answer}
 use Rattle.radio.specs.declared.Reading.{Reading}
 use Rattle.radio.specs.declared.record.Status.{Status}
 
@@ -13,3 +16,9 @@ module _ (frame : List ℕ) (n : ℕ) (iq mic : List ℤ) (s : Status) where
   read-settled r r′ iq₁ iq₂ mic₁ mic₂ one other =
       let same = one ∙ sym other in
       (ap (λ o. o .reading) same, ap (λ o. o .iq) same, ap (λ o. o .mic) same)
+
+module _ (s : Status) (w n : ℕ) (iq mic : List ℤ) (frame : List ℕ) where
+  pub write-settled : (a a′ : Answer) (frame₁ frame₂ : List ℕ) → wrote a frame₁ ≡ writeOf s w n iq mic frame → wrote a′ frame₂ ≡ writeOf s w n iq mic frame → (a ≡ a′) × (frame₁ ≡ frame₂)
+  write-settled a a′ frame₁ frame₂ one other =
+      let same = one ∙ sym other in
+      (ap (λ o. o .answer) same, ap (λ o. o .frame) same)

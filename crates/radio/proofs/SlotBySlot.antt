@@ -2,7 +2,7 @@
 use mathlib.Core.Path.{_≡_, refl, sym, ap, _∙_}
 use mathlib.Core.List.{List}
 use Prim.Native.Nat.{ℕ, _+_, _*_, _<_, _≤_}
-use native.Mathlib.Nat.{zero-mul, add-mul, one-mul, mul-comm, mul-le-mul-right, add-assoc}
+use native.Mathlib.Nat.{le-trans, zero-mul, add-mul, one-mul, mul-comm, add-assoc}
 use native.Mathlib.Omega.{arith}
 use lib.IntN.{ℤ}
 use lib.ListN.{length, getD, take, drop, set, length-set, length-take, length-drop}
@@ -10,7 +10,7 @@ use lib.Seq.{getD-take, getD-drop}
 use Rattle.wire.specs.Lists.{over, overAt}
 use Rattle.wire.proofs.Lists.{over-more, length-overAt, overAt-same, over-then}
 use Rattle.layout.specs.Slots.{slot, slots, values}
-use Rattle.layout.proofs.Places.{slot-in-payload, place-in-slot}
+use Rattle.layout.proofs.Places.{slot-in-payload, values-inside, place-in-slot}
 use Rattle.radio.specs.Samples.{sample24, sample16, iqAt, micAt}
 
 -- a sample of a part is the sample of the whole that stands there
@@ -60,10 +60,7 @@ module _ (payload : List ℕ) (n : ℕ) (iq₀ mic₀ : List ℤ) (size count : 
       in-payload = rw (so-far .size-is) (slot-in-payload n t (rw (so-far .count-is) at below))
 
       values-room : t * (2 * n) + 2 * n ≤ length iq₀
-      values-room =
-          let h = mul-le-mul-right {m = t + 1} {n = slots n} (2 * n) (omega (arith, so-far .count-is)) in
-          let e : (t + 1) * (2 * n) ≡ t * (2 * n) + 2 * n = add-mul t 1 (2 * n) ∙ ap (λ k. t * (2 * n) + k) (one-mul (2 * n)) in
-          omega (arith, so-far .iq-room, mul-comm (2 * n) (slots n))
+      values-room = le-trans (values-inside n t (rw (so-far .count-is) at below)) (so-far .iq-room)
 
       pub slot-room : t * (2 * n) + 2 * n ≤ length iq
       slot-room = rw (so-far .iq-long) values-room

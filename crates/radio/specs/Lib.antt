@@ -3,3 +3,5 @@ pub mod Words
 pub mod Carried
 pub mod Samples
 pub mod Read
+pub mod Write
+pub mod RoundTrip

@@ -8,7 +8,7 @@ use lib.ListN.{length, getD, drop}
 use Rattle.wire.specs.Answers.{Test, _gives_, first, accepts}
 use Rattle.wire.specs.Lists.{over}
 use Rattle.wire.specs.Sync.{syncAt}
-use Rattle.wire.specs.Zeros.{allZero}
+use Rattle.wire.specs.Every.{allZero}
 use Rattle.wire.specs.declared.Answer.{Answer}
 use Rattle.wire.specs.declared.Answer.the-variants.{Accepted, BadCount, Length, ShortBuffer, NoSync, Padding}
 use Rattle.layout.specs.Slots.{counted, slots, padding, values}

@@ -1,13 +1,18 @@
-// Frames from the radio: one frame read into lent slices of samples and a status record.
+// Frames from the radio: one frame read into lent slices of samples and a status record, or written
+// from them.
 //
-// `read` is the call. It takes what it is given: a receiver count, a frame, two slices and a record of
-// any kind. It answers one of its refusals and leaves all as it was, or reads every sample of the frame,
-// says which word came, and hands back the record with that word's fields in it.
+// `read` and `write` are the calls. Each takes what it is given: a receiver count, a frame, slices and a
+// record of any kind. It answers one of its refusals and leaves all as it was, or does its work. A read
+// gives every sample of the frame, says which word came, and hands back the record with that word's fields
+// in it; a write settles every byte of the frame.
+mod control;
+mod fill;
 pub mod record;
 pub mod samples;
 pub mod words;
 
 use crate::record::Status;
+use crate::record::Versions;
 use crate::words::Word;
 use layout::Layout;
 use layout::Row;
@@ -16,8 +21,9 @@ ghost use mathlib.Core.Path.{_≡_};
 ghost use Prim.Native.Nat.{_≤_};
 ghost use lib.ListN.{length};
 ghost use Rattle.wire.specs.declared.Answer.the-variants.{Accepted};
-ghost use Rattle.layout.specs.Slots.{rowOf};
+ghost use Rattle.layout.specs.Slots.{rowOf, values, slots};
 ghost use Rattle.radio.specs.Read.{readOf, gave, frameAnswer, byte, word};
+ghost use Rattle.radio.specs.Write.{writeOf, gave as wrote, frameOf, laterAnswer, versionsFit, Versioned};
 ghost use Rattle.radio.specs.Words.{applied};
 ghost use Rattle.radio.specs.declared.words.Word.the-variants.{Unlisted};
 
@@ -99,4 +105,99 @@ pub(crate) fn refusal(frame: &[u8], receivers: usize, row: Row, iq: usize, mic: 
     } else {
         Answer::NoSync
     }
+}
+
+// Writes the frame that carries a word of the record: I and Q values in slot order from the start of
+// `iq`, one microphone value a slot from the start of `mic`. Every byte of the frame is written. Its
+// refusals, in order: BAD_COUNT, LENGTH, SHORT_BUFFER, RANGE.
+pub fn write(
+    status: Status,
+    word: usize,
+    receivers: usize,
+    iq: &[i32],
+    mic: &[i16],
+    frame: &mut [u8],
+) -> Answer
+    ensures { λ r. ⌜ wrote r (now (frame .exit)) ≡ writeOf status word receivers (now (iq .entry)) (now (mic .entry)) (now (frame .entry)) ⌝ }
+{
+    let Layout::Of(row) = layout::row_of(receivers) else {
+        return Answer::BadCount;
+    };
+    let answer = write_refusal(status, word, receivers, row, iq, mic.len(), frame.len());
+    if wire::number(answer) != 0 {
+        return answer;
+    }
+    write_frame(status, word as u8, receivers, row, iq, mic, frame);
+    Answer::Accepted
+}
+
+// A frame that no test refuses: its header, its slots and its padding, one after another.
+pub(crate) fn write_frame(
+    status: Status,
+    word: u8,
+    receivers: usize,
+    row: Row,
+    iq: &[i32],
+    mic: &[i16],
+    frame: &mut [u8],
+)
+    requires { ⌜ (word ≤ 4) × Versioned (status .versions) × (row ≡ rowOf receivers) × (values receivers ≤ length (now iq)) × (slots receivers ≤ length (now mic)) × (length (now frame) ≡ 512) ⌝ }
+    ensures { λ r. ⌜ now (frame .exit) ≡ frameOf status word receivers (now (iq .entry)) (now (mic .entry)) ⌝ }
+{
+    control::write_header(status, word, frame);
+    fill::write_slots(iq, mic, receivers, row, frame);
+    fill::clear(frame, 512 - row.padding);
+}
+
+// The first test of a write that holds, once the receiver count has its row. The whole record is
+// tested, whichever word is due, and of the samples only those that are needed.
+pub(crate) fn write_refusal(
+    status: Status,
+    word: usize,
+    receivers: usize,
+    row: Row,
+    iq: &[i32],
+    mic: usize,
+    frame: usize,
+) -> Answer
+    requires { ⌜ (receivers ≤ 8) × (row ≡ rowOf receivers) ⌝ }
+    ensures { λ r. ⌜ r ≡ laterAnswer status word receivers (now (iq .entry)) mic frame ⌝ }
+{
+    let versions = status.versions;
+    let slots = row.slots;
+    let needed = 2 * receivers * slots;
+    if frame != 512 {
+        return Answer::Length;
+    }
+    if iq.len() < needed {
+        return Answer::ShortBuffer;
+    }
+    if mic < slots {
+        return Answer::ShortBuffer;
+    }
+    if !wire::numbers::all_fit24(&iq[..needed]) {
+        return Answer::Range;
+    }
+    if !versions_fit(versions) {
+        return Answer::Range;
+    }
+    if 4 < word {
+        return Answer::Range;
+    }
+    Answer::Accepted
+}
+
+fn versions_fit(versions: Versions) -> bool
+    ensures { λ r. ⌜ r ≡ versionsFit versions ⌝ }
+{
+    if 127 < versions.board1 {
+        return false;
+    }
+    if 127 < versions.board2 {
+        return false;
+    }
+    if 127 < versions.board3 {
+        return false;
+    }
+    versions.board4 <= 127
 }

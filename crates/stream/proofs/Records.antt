@@ -7,7 +7,7 @@ use lib.Dec.{leb, eqb}
 use lib.ListN.{drop}
 use Rattle.wire.proofs.Cases.{by-test}
 use Rattle.wire.proofs.Cases.{both-true}
-use Rattle.wire.specs.Zeros.{allZero}
+use Rattle.wire.specs.Every.{allZero}
 use Rattle.stream.specs.Record.{soundOf}
 use Rattle.stream.specs.declared.Stream.{Stream}
 

@@ -4,7 +4,7 @@ use mathlib.Core.Bool.{Bool, _&&_}
 use mathlib.Core.List.{List, _++_}
 use lib.Dec.{leb, eqb}
 use lib.ListN.{length, take, drop, replicate}
-use Rattle.wire.specs.Zeros.{allZero}
+use Rattle.wire.specs.Every.{allZero}
 use Rattle.stream.specs.declared.Stream.{Stream}
 
 -- the bytes s at the start of n cells, and the cells past them zero

@@ -4,8 +4,8 @@ use mathlib.Core.List.{List, [], _∷_, _++_, append-assoc, append-nil}
 use Prim.Native.Nat.{ℕ, zero, suc, _+_, _*_, _<_, _≤_}
 use native.Mathlib.Omega.{arith}
 use lib.Arith.{digits-lt}
-use lib.ListN.{length, getD, take, drop, set, length-append, length-drop, take-append-drop, List·getD-append}
-use lib.Seq.{sets, length-take-le, take-at, drop-at, drop-cons, drop-drop, take-suc, set-at, getD-at, getD-append-add}
+use lib.ListN.{drop-of-length-le, replicate, replicate-append-replicate, length, getD, take, drop, set, length-append, length-drop, take-append-drop, List·getD-append}
+use lib.Seq.{take-add, sets, sets-eq, length-take-le, take-at, drop-at, drop-cons, drop-drop, take-suc, set-at, getD-at, getD-append-add}
 use native.Mathlib.Nat.{zero-add, suc-add, add-zero, add-suc, zero-mul, suc-mul}
 use native.Mathlib.Numerals.{add-one}
 use Rattle.wire.proofs.Cases.{by-order}
@@ -112,3 +112,31 @@ module _ {A : Type 0} where
   sets-append out at (x ∷ a) b =
       let moved : at + suc (length a) ≡ suc at + length a = omega arith in
       rw moved (sets-append (set out at x) (suc at) a b)
+
+  -- values written over a part are stores of their list
+  pub overAt-sets : (at n : ℕ) (f : ℕ → A) (xs : List A) → at + n ≤ length xs → overAt at n f xs ≡ sets xs at (tab n f)
+  overAt-sets at n f xs room =
+      let fits : at + length (tab n f) ≤ length xs = rw (length-tab n f) room in
+      sym (sets-eq (tab n f) xs at fits ∙ rw (length-tab n f, append-assoc (take at xs) (tab n f) (drop (at + n) xs), drop-drop n at xs))
+
+  pub tab-constant : (n : ℕ) (a : A) → tab n (λ i. a) ≡ replicate n a
+  tab-constant zero a = refl
+  tab-constant (suc n) a =
+      let last : n + 1 ≡ suc n = add-one n in
+      rw (tab-constant n a) (replicate-append-replicate n 1 a ∙ ap (λ m. replicate m a) last)
+
+  -- a whole list is stored over
+  pub sets-all : (xs vs : List A) → length vs ≡ length xs → sets xs 0 vs ≡ vs
+  sets-all xs vs long =
+      let end : length xs ≤ 0 + length vs = omega arith in
+      sets-eq vs xs 0 (omega arith) ∙ rw (drop-of-length-le xs {i = 0 + length vs} end) (append-nil vs)
+
+  -- the first n parts of k are the first n * k elements
+  pub first-parts : (n k : ℕ) (xs : List A) → n * k ≤ length xs → tabs n (λ t. take k (drop (t * k) xs)) ≡ take (n * k) xs
+  first-parts zero k xs room = rw (zero-mul k)
+  first-parts (suc n) k xs room =
+      let less : n * k ≤ length xs = omega (arith, suc-mul n k) in
+      rw (first-parts n k xs less, suc-mul n k) (sym (take-add (n * k) k xs))
+
+  pub getD-over : (n : ℕ) (f : ℕ → A) (xs : List A) (i : ℕ) (d : A) → i < n → getD (over n f xs) i d ≡ f i
+  getD-over n f xs i d below = List·getD-append (tab n f) (drop n xs) d i (rw (length-tab n f) below) ∙ getD-tab n f i d below

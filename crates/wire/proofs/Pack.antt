@@ -1,12 +1,14 @@
 -- A byte and its fields: the cases of `bits` that a function meets, and a byte put together again from its fields. Assumes nothing.
 use mathlib.Core.Path.{_≡_, refl, sym, ap, ap₂, _∙_}
 use mathlib.Core.List.{List, [], _∷_}
-use Prim.Native.Nat.{ℕ, suc, _+_, _-_, _*_, _/_, _%_, _^_, _<_, _≤_}
+use Prim.Native.Nat.{ℕ, zero, suc, _+_, _-_, _*_, _/_, _%_, _^_, _<_, _≤_}
 use native.Mathlib.Nat.{add-assoc, add-comm, zero-mul, div-one, mod-one, div-eq-of-lt, mod-eq-of-lt, mul-assoc, add-mul, lt-of-lt-of-le, pow-succ'}
 use native.Mathlib.Omega.{arith}
+use mathlib.Core.Bool.{Bool, true, false}
+use lib.Dec.{eqb}
 use lib.Arith.{digits-lt, digits-div, digits-mod}
 use lib.Pow.{pow-mono, pow-lt, pow-add, shr-shr, shr-le, shr-lt, split}
-use Rattle.wire.specs.Fields.{bits, fieldsFrom, packFrom, fields, pack}
+use Rattle.wire.specs.Fields.{flag, bits, fieldsFrom, packFrom, fields, pack}
 
 module _ (c hi lo : ℕ) where
   pub no-bits : hi < lo → bits c hi lo ≡ 0
@@ -76,3 +78,17 @@ pack-fields (w ∷ ws) c h =
     ap (pack (w ∷ ws)) (fields-cons w ws c) ∙ pack-cons w (c % 2 ^ w) ws (fields ws (c / 2 ^ w))
     ∙ ap (λ n. n * 2 ^ w + c % 2 ^ w) (pack-fields ws (c / 2 ^ w) rest)
     ∙ split c w
+
+-- a flag and its bit
+pub flag-on : (b : Bool) → eqb (flag b) 1 ≡ b
+flag-on true = refl
+flag-on false = refl
+
+pub on-flag : (d : ℕ) → d < 2 → flag (eqb d 1) ≡ d
+on-flag zero h = refl
+on-flag (suc zero) h = refl
+on-flag (suc (suc d)) h = absurd (omega arith)
+
+pub flag-fits : (b : Bool) → flag b < 2
+flag-fits true = omega arith
+flag-fits false = omega arith

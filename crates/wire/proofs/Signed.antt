@@ -80,3 +80,12 @@ under-range m (negsuc n) e = sym (le-ltb n (suc m) (ltb-true m n e))
 pub over-range : (m : ℕ) (z : ℤ) → ltZ z (negsuc m) ≡ false → ltZ z (pos (suc m)) ≡ fitsBy (suc m) z
 over-range m (pos n) e = refl
 over-range m (negsuc n) e = sym (lt-ltb n (suc m) (suc-le-suc (ltb-false m n e)))
+
+-- a number in range, by its magnitude
+pub fits-mag : (half : ℕ) (z : ℤ) → fitsBy half z ≡ true → mag z < half
+fits-mag half (pos n) e = ltb-true n half e
+fits-mag half (negsuc n) e = ltb-true n half e
+
+pub mag-fits : (half : ℕ) (z : ℤ) → mag z < half → fitsBy half z ≡ true
+mag-fits half (pos n) h = lt-ltb n half h
+mag-fits half (negsuc n) h = lt-ltb n half h

@@ -35,3 +35,9 @@ packFrom lo (w ∷ ws) (d ∷ ds) = d * 2 ^ lo + packFrom (lo + w) ws ds
 
 abbrev pub pack : List ℕ → List ℕ → ℕ
 pack ws ds = packFrom 0 ws ds
+
+-- a byte of eight flags, bit 0 first
+abbrev pub eightFlags : Bool → Bool → Bool → Bool → Bool → Bool → Bool → Bool → ℕ
+eightFlags b0 b1 b2 b3 b4 b5 b6 b7 =
+    pack (1 ∷ 1 ∷ 1 ∷ 1 ∷ 1 ∷ 1 ∷ 1 ∷ 1 ∷ [])
+    (flag b0 ∷ flag b1 ∷ flag b2 ∷ flag b3 ∷ flag b4 ∷ flag b5 ∷ flag b6 ∷ flag b7 ∷ [])

@@ -2,5 +2,5 @@ pub mod Answers
 pub mod Numbers
 pub mod Fields
 pub mod Sync
-pub mod Zeros
+pub mod Every
 pub mod Lists

@@ -2,6 +2,7 @@
 ghost use mathlib.Core.Path.{_≡_};
 ghost use mathlib.Core.List.{[], _∷_};
 ghost use Prim.Native.Nat.{_^_, _<_, _≤_, _+_};
+ghost use Rattle.wire.specs.Every.{allFit};
 ghost use Rattle.wire.specs.Numbers.{be, bytesOf, signed, unsigned, fits, signedBy, unsignedBy};
 
 // The bytes of a 24-bit sample, and whether the number that was given fits them.
@@ -88,6 +89,23 @@ pub fn fits24(x: i32) -> bool
         return false;
     }
     x < 8388608
+}
+
+// Whether every one of xs fits, as `fits24` has it. It counts those that do not and has no early way
+// out, so that many are taken at a time.
+pub fn all_fit24(xs: &[i32]) -> bool
+    ensures { λ r. ⌜ r ≡ allFit (now (xs .entry)) ⌝ }
+{
+    let mut others: usize = 0;
+    let mut i = 0;
+    while i < xs.len() {
+        let fits = fits24(xs[i]);
+        i += 1;
+        if !fits {
+            others += 1;
+        }
+    }
+    others == 0
 }
 
 // The number that n stands for, where the patterns from half on stand for n - 2 * half.

@@ -1,6 +1,6 @@
 // Bytes that must be zero: padding, and cells that hold nothing.
 ghost use mathlib.Core.Path.{_≡_};
-ghost use Rattle.wire.specs.Zeros.{allZero};
+ghost use Rattle.wire.specs.Every.{allZero};
 
 // Whether every byte is 0. It counts those that are not and has no early way out, so that many are
 // taken at a time.

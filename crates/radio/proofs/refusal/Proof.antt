@@ -7,7 +7,7 @@ use lib.ListN.{length, take, drop, length-drop}
 use lib.Seq.{take-all}
 use Rattle.layout.specs.Slots.{slots, padding, values}
 use Rattle.layout.proofs.Places.{whole-payload, few-values}
-use Rattle.wire.specs.Zeros.{allZero}
+use Rattle.wire.specs.Every.{allZero}
 use Rattle.radio.specs.Read.{padded}
 use Rattle.radio.proofs.Cases as cases
 use borrow.Author.Needs.{needs}

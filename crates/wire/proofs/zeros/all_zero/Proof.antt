@@ -1,16 +1,22 @@
 -- `zeros::all_zero` meets its contract: after i turns the count is that of the first i bytes. Assumes nothing.
 use mathlib.Core.Path.{_≡_, refl, sym, _∙_}
-use Prim.Native.Nat.{_-_, _≤_}
+use mathlib.Core.Bool.{Bool}
+use Prim.Native.Nat.{ℕ, _-_, _≤_}
+use borrow.Author.Tests.{eq-eqb, ne-eqb}
+use lib.Dec.{eqb}
 use native.Mathlib.Omega.{arith}
 use denote.Ref.{now}
 use lib.ListN.{length, take}
 use lib.Seq.{take-all}
-use Rattle.wire.proofs.AllZero.{othersIn, one-zero, one-other, no-others}
+use Rattle.wire.proofs.Counted.{failing, one-passes, one-fails, none-fails}
 use Rattle.wire.proofs.zeros.all_zero.Statement.{statement}
 use Rattle.wire.proofs.zeros.all_zero.Tie as tie
 
+abbrev isZero : ℕ → Bool
+isZero b = eqb b 0
+
 abbrev Inv-loop : tie.InvT-loop
-Inv-loop part others₀ i₀ others i = (i ≤ length part) × (others ≤ i) × (others ≡ othersIn (take i part))
+Inv-loop part others₀ i₀ others i = (i ≤ length part) × (others ≤ i) × (others ≡ failing isZero (take i part))
 
 abbrev μ-loop : tie.MeasureT-loop
 μ-loop part others₀ i₀ others i = length part - i
@@ -33,7 +39,7 @@ loop-less c = omega arith
 loop-again : tie.Need-loop-again Inv-loop μ-loop
 loop-again c =
     let turn = c .before .before in
-    (omega arith, omega arith, rw (turn .before .loop .inv .2) (sym (one-other _ _ (turn .loop-test .taken) (c .if1 .taken))))
+    (omega arith, omega arith, rw (turn .before .loop .inv .2) (sym (one-fails isZero _ _ 0 (turn .loop-test .taken) (ne-eqb _ _ (c .if1 .taken)))))
 
 loop-less-2 : tie.Need-loop-less-2 Inv-loop μ-loop
 loop-less-2 c = omega arith
@@ -41,12 +47,12 @@ loop-less-2 c = omega arith
 loop-again-2 : tie.Need-loop-again-2 Inv-loop μ-loop
 loop-again-2 c =
     let turn = c .before .before in
-    (omega arith, omega arith, turn .before .loop .inv .2 ∙ sym (one-zero _ _ (turn .loop-test .taken) (c .if1 .left)))
+    (omega arith, omega arith, turn .before .loop .inv .2 ∙ sym (one-passes isZero _ _ 0 (turn .loop-test .taken) (eq-eqb _ _ (c .if1 .left))))
 
 returns : tie.Need-returns Inv-loop μ-loop
 returns c =
     let part = now (c .before .before .args .part) in
-    rw (c .before .loop .inv .2, take-all (c .before .loop .i) part (c .loop-test .left)) (no-others part)
+    rw (c .before .loop .inv .2, take-all (c .before .loop .i) part (c .loop-test .left)) (none-fails isZero part)
 
 pub all-zero-spec : {M : Type 1} → statement M
 all-zero-spec =

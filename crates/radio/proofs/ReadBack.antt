@@ -1,0 +1,65 @@
+-- What a read finds in a frame that was written: the answer, the word, the record, and the samples. Assumes nothing.
+use mathlib.Core.Path.{_≡_, ap, _∙_}
+use mathlib.Core.List.{List, _++_}
+use Prim.Native.Nat.{ℕ, _≤_}
+use lib.IntN.{ℤ}
+use lib.ListN.{length, getD, take, drop, replicate}
+use Rattle.wire.specs.Lists.{over}
+use Rattle.wire.specs.declared.Answer.the-variants.{Accepted}
+use Rattle.layout.specs.Slots.{slots, values, padding}
+use Rattle.layout.proofs.Lookup.{range}
+use Rattle.radio.specs.Read.{answerOf, after, payload, word}
+use Rattle.radio.specs.RoundTrip.{wordFrom, withKeys, Held, Samples16}
+use Rattle.radio.specs.Samples.{iqAt, micAt}
+use Rattle.radio.specs.Words.{applied, carried, keyed, wordAt}
+use Rattle.radio.specs.Write.{keyByte, wordBytes, frameOf}
+use Rattle.radio.specs.declared.record.Status.{Status}
+use Rattle.radio.proofs.Cases.{answer-counted, all-good}
+use Rattle.radio.proofs.FrameLaid.{frame-long}
+use Rattle.radio.proofs.FrameParts.{frame-sync, frame-key, frame-word, frame-payload, frame-padded}
+use Rattle.radio.proofs.SamplesBack.{all-iq-back, all-mic-back}
+use Rattle.radio.proofs.WordsBack.{address-back, dot-back, dash-back, ptt-back, word-back}
+use Rattle.radio.proofs.WriteCases.{Good, versioned}
+
+module _ (s : Status) (w n : ℕ) (iq mic : List ℤ) (lent : ℕ) (wrote : Good s w n iq (length mic) lent) where
+  pub answer-back : (iq′ mic′ : ℕ) → values n ≤ iq′ → slots n ≤ mic′ → answerOf (frameOf s w n iq mic) n iq′ mic′ ≡ Accepted
+  answer-back iq′ mic′ iq-room mic-room =
+      answer-counted _ n iq′ mic′ (wrote .is-counted)
+      ∙ all-good _ n iq′ mic′ (frame-long s w n iq mic) iq-room mic-room (frame-sync s w n iq mic) (frame-padded s w n iq mic)
+
+  pub word-again : Held s → word (frameOf s w n iq mic) ≡ wordFrom s w
+  word-again held =
+      frame-word s w n iq mic
+      ∙ ap (λ a. wordAt a (getD (wordBytes s w) 0 0) (getD (wordBytes s w) 1 0) (getD (wordBytes s w) 2 0) (getD (wordBytes s w) 3 0)) (address-back s w (wrote .listed))
+      ∙ word-back s held (versioned (s .versions) (wrote .versions-fit)) w (wrote .listed)
+
+  keys-again : (into : Status) → keyed (keyByte s w) into ≡ withKeys s into
+  keys-again into =
+      λ i. record {
+        dot = dot-back s w (wrote .listed) i;
+        dash = dash-back s w (wrote .listed) i;
+        ptt = ptt-back s w (wrote .listed) i;
+        overflow = into .overflow;
+        inputs = into .inputs;
+        forward = into .forward;
+        reverse = into .reverse;
+        supply = into .supply;
+        versions = into .versions;
+      }
+
+  pub record-again : Held s → (into : Status) → after (frameOf s w n iq mic) into ≡ carried (wordFrom s w) (withKeys s into)
+  unfolding applied
+  record-again held into =
+      ap (λ k. carried (word (frameOf s w n iq mic)) (keyed k into)) (frame-key s w n iq mic)
+      ∙ ap (carried (word (frameOf s w n iq mic))) (keys-again into)
+      ∙ ap (λ x. carried x (withKeys s into)) (word-again held)
+
+  pub iq-again : (iq′ : List ℤ) → over (values n) (iqAt n (payload (frameOf s w n iq mic))) iq′ ≡ take (values n) iq ++ drop (values n) iq′
+  iq-again iq′ =
+      ap (λ p. over (values n) (iqAt n p) iq′) (frame-payload s w n iq mic)
+      ∙ ap (λ l. l ++ drop (values n) iq′) (all-iq-back n iq mic (replicate (padding n) 0) (range n (wrote .is-counted) .0) (wrote .iq-room) (wrote .fit))
+
+  pub mic-again : Samples16 mic → (mic′ : List ℤ) → over (slots n) (micAt n (payload (frameOf s w n iq mic))) mic′ ≡ take (slots n) mic ++ drop (slots n) mic′
+  mic-again small mic′ =
+      ap (λ p. over (slots n) (micAt n p) mic′) (frame-payload s w n iq mic)
+      ∙ ap (λ l. l ++ drop (slots n) mic′) (all-mic-back n iq mic (replicate (padding n) 0) (wrote .mic-room) small)
