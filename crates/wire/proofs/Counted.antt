@@ -10,7 +10,7 @@ use borrow.Author.Tests.{eqb-true, ne-eqb}
 use lib.Dec.{eqb}
 use lib.ListN.{length, getD, take, replicate}
 use lib.Seq.{take-suc}
-use Rattle.wire.proofs.Cases.{by-test, both-true}
+use Rattle.wire.proofs.Cases.{by-test, by-order, both-true}
 use Rattle.wire.specs.Lists.{tab}
 use Rattle.wire.specs.Every.{every, allZero}
 
@@ -64,3 +64,14 @@ zeros-are [] e = refl
 zeros-are (b ∷ bs) e =
     let each = both-true (eqb b 0) (allZero bs) e in
     ap₂ _∷_ (eqb-true b 0 (each .0)) (zeros-are bs (each .1))
+
+-- a test of each number below another, which computes where that one is written out
+abbrev pub all-below : ℕ → (ℕ → Bool) → Bool
+all-below zero test = true
+all-below (suc n) test = all-below n test && test n
+
+pub below : (n : ℕ) (test : ℕ → Bool) → all-below n test ≡ true → (i : ℕ) → i < n → test i ≡ true
+below zero test e i h = absurd (omega arith)
+below (suc n) test e i h =
+    let both = both-true (all-below n test) (test n) e in
+    by-order i n (below n test (both .0) i) (λ above. let last : i ≡ n = omega arith in rw last (both .1))

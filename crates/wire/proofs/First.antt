@@ -2,12 +2,13 @@
 use mathlib.Core.Path.{_≡_, refl, sym, ap, _∙_}
 use mathlib.Core.Bool.{true, false}
 use mathlib.Core.List.{List, [], _∷_, map}
-use Prim.Native.Nat.{ℕ}
+use Prim.Native.Nat.{ℕ, _≤_}
+use native.Mathlib.Nat.{le-trans}
 use native.Mathlib.Omega.{arith}
-use borrow.Author.Tests.{ltb-true, eqb-true}
-use lib.Dec.{ltb}
+use borrow.Author.Tests.{leb-true, eqb-true}
+use lib.Dec.{leb}
 use Rattle.wire.proofs.Cases.{by-test, both-true}
-use Rattle.wire.specs.Answers.{Test, _gives_, first, numberOf, nine, above, inOrder, accepts}
+use Rattle.wire.specs.Answers.{Test, _gives_, first, numberOf, nine, from, inOrder, accepts}
 use Rattle.wire.specs.declared.Answer.{Answer}
 use Rattle.wire.specs.declared.Answer.the-variants.{Accepted, BadState, BadCount, Length, ShortBuffer, StreamFull, NoSync, Padding, Reserved, Range}
 
@@ -27,20 +28,20 @@ pub none-accepted : (ts : List Test) → None ts → first ts ≡ Accepted
 none-accepted [] n = refl
 none-accepted (t ∷ ts) n = first-later t ts (n .0) ∙ none-accepted ts (n .1)
 
-not-accepted : (k : ℕ) (a : Answer) → ltb k (numberOf a) ≡ true → a ≡ Accepted → ⊥
-not-accepted k a h e = let low : numberOf a ≡ 0 = ap numberOf e in let some = ltb-true k (numberOf a) h in omega arith
+not-accepted : (k : ℕ) (a : Answer) → 1 ≤ k → leb k (numberOf a) ≡ true → a ≡ Accepted → ⊥
+not-accepted k a some h e = let low : numberOf a ≡ 0 = ap numberOf e in let above = leb-true k (numberOf a) h in omega arith
 
-none-above : (k : ℕ) (ts : List Test) → above k ts ≡ true → first ts ≡ Accepted → None ts
-none-above k [] order e = tt
-none-above k (t ∷ ts) order e =
-    let each = both-true (ltb k (numberOf (t .answer))) (above (numberOf (t .answer)) ts) order in
+none-from : (k : ℕ) (ts : List Test) → 1 ≤ k → from k ts ≡ true → first ts ≡ Accepted → None ts
+none-from k [] some order e = tt
+none-from k (t ∷ ts) some order e =
+    let each = both-true (leb k (numberOf (t .answer))) (from (numberOf (t .answer)) ts) order in
     by-test (t .holds)
-    (λ held. absurd (not-accepted k (t .answer) (each .0) (sym (first-here t ts held) ∙ e)))
-    (λ passed. (passed, none-above (numberOf (t .answer)) ts (each .1) (sym (first-later t ts passed) ∙ e)))
+    (λ held. absurd (not-accepted k (t .answer) some (each .0) (sym (first-here t ts held) ∙ e)))
+    (λ passed. (passed, none-from (numberOf (t .answer)) ts (le-trans some (leb-true k (numberOf (t .answer)) (each .0))) (each .1) (sym (first-later t ts passed) ∙ e)))
 
 -- a call that is accepted passed every test
 pub accepted-none : (ts : List Test) → inOrder ts ≡ true → first ts ≡ Accepted → None ts
-accepted-none ts order e = none-above 0 ts order e
+accepted-none ts order e = none-from 1 ts (omega arith) order e
 
 -- the table of nine has its numbers in order
 pub nine-in-order : inOrder (map (λ refusal. true gives refusal) nine) ≡ true

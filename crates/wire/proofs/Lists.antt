@@ -140,3 +140,12 @@ module _ {A : Type 0} where
 
   pub getD-over : (n : ℕ) (f : ℕ → A) (xs : List A) (i : ℕ) (d : A) → i < n → getD (over n f xs) i d ≡ f i
   getD-over n f xs i d below = List·getD-append (tab n f) (drop n xs) d i (rw (length-tab n f) below) ∙ getD-tab n f i d below
+
+  tabs-add : (m n : ℕ) (f : ℕ → List A) → tabs (m + n) f ≡ tabs m f ++ tabs n (λ j. f (m + j))
+  tabs-add m zero f = rw (add-zero m) (sym (append-nil (tabs m f)))
+  tabs-add m (suc n) f = rw (add-suc m n, tabs-add m n f) (append-assoc (tabs m f) (tabs n (λ j. f (m + j))) (f (m + n)))
+
+  -- lists one after another are their groups of k, one after another
+  pub tabs-groups : (n k : ℕ) (f : ℕ → List A) → tabs (n * k) f ≡ tabs n (λ t. tabs k (λ j. f (t * k + j)))
+  tabs-groups zero k f = rw (zero-mul k)
+  tabs-groups (suc n) k f = rw (suc-mul n k, tabs-add (n * k) k f, tabs-groups n k f)

@@ -2,7 +2,7 @@
 use Prim.Native.Nat.{ℕ}
 use mathlib.Core.Bool.{Bool, true, cond, _&&_}
 use mathlib.Core.List.{List, [], _∷_}
-use lib.Dec.{eqb, ltb}
+use lib.Dec.{eqb, leb}
 use Rattle.wire.specs.declared.Answer.{Answer}
 use Rattle.wire.specs.declared.Answer.the-variants.{Accepted, BadState, BadCount, Length, ShortBuffer, StreamFull, NoSync, Padding, Reserved, Range}
 
@@ -39,10 +39,10 @@ first (t ∷ ts) = cond (t .holds) (t .answer) (first ts)
 abbrev pub accepts : Answer → Bool
 accepts a = eqb (numberOf a) 0
 
--- a call's tests stand in the order of the nine: each has a higher number than the one before it
-abbrev pub above : ℕ → List Test → Bool
-above k [] = true
-above k (t ∷ ts) = ltb k (numberOf (t .answer)) && above (numberOf (t .answer)) ts
+-- a call's tests stand in the order of the nine: each gives a refusal, and none a lower number than the one before it
+abbrev pub from : ℕ → List Test → Bool
+from k [] = true
+from k (t ∷ ts) = leb k (numberOf (t .answer)) && from (numberOf (t .answer)) ts
 
 abbrev pub inOrder : List Test → Bool
-inOrder ts = above 0 ts
+inOrder ts = from 1 ts

@@ -1,0 +1,23 @@
+-- The laws of the host record and its frames, by subject, and the theorems that are signed.
+pub mod Codes
+pub mod LowBits
+pub mod Heard
+pub mod Filling
+pub mod Slots
+pub mod ReadCases
+pub mod Carries
+pub mod Sameness
+pub mod Told
+pub mod Fresh
+pub mod Settled
+pub mod Rows
+pub mod Saying
+pub mod BuildCases
+pub mod SampleTrip
+pub mod BitTrip
+pub mod WordTrip
+pub mod Assigned
+pub mod ByteTrip
+pub mod BuiltFrame
+pub mod WhollySent
+pub mod RoundTrip

@@ -1,0 +1,60 @@
+-- `samples::read_slots` meets its contract: after t turns the first t slots are read. Assumes nothing.
+use mathlib.Core.Path.{_≡_, refl, ap, _∙_}
+use mathlib.Core.List.{_++_}
+use Prim.Native.Nat.{_-_, _*_}
+use native.Mathlib.Nat.{add-sub-cancel-left}
+use native.Mathlib.Omega.{arith}
+use denote.Ref.{now}
+use lib.ListN.{length, drop}
+use Rattle.host.proofs.Filling.{Turned, turned, filled-more, part-long}
+use Rattle.host.proofs.Slots.{slotNumbers, slot-by-slot}
+use Rattle.host.specs.Samples.{numbers}
+use Rattle.host.proofs.samples.read_slots.Statement.{statement}
+use Rattle.host.proofs.samples.read_slots.Tie as tie
+
+abbrev Inv-loop : tie.InvT-loop
+Inv-loop payload audio₀ t₀ audio t = (length payload ≡ 504) × Turned 4 (slotNumbers payload) audio₀ 63 t audio
+
+abbrev μ-loop : tie.MeasureT-loop
+μ-loop payload audio₀ t₀ audio t = 63 - t
+
+loop-holds : tie.Need-loop-holds Inv-loop μ-loop
+loop-holds c = (c .before .pre .0, turned 4 _ _ 63 0 _ (λ s. refl) (c .before .pre .1) (omega arith) refl)
+
+read-slot-requires : tie.Need-read-slot-requires Inv-loop μ-loop
+read-slot-requires c κs =
+    let turn = c .before .before .before .loop in
+    (part-long 8 (turn .t) _ (omega arith), part-long 4 (turn .t) _ (omega arith))
+
+loop-again : tie.Need-loop-again Inv-loop μ-loop
+loop-again c =
+    let given = c .before .before .before .before .before .before .before .args in
+    let turn = c .before .before .before .before .before .loop in
+    let inv = turn .inv .1 in (
+      turn .inv .0,
+      turned 4 (slotNumbers (now (given .payload))) (now (given .audio)) 63 _ _ (λ s. refl) (inv .room) (omega arith)
+          (rw (c .before .read-slot .ensures, inv .same, add-sub-cancel-left (turn .t * 8) 8)
+          (filled-more 4 (slotNumbers (now (given .payload))) (now (given .audio)) (λ s. refl) (turn .t))),
+    )
+
+returns : tie.Need-returns Inv-loop μ-loop
+unfolding numbers
+returns c =
+    let given = c .before .before .before .args in
+    let turn = c .before .loop in
+    let last : turn .t ≡ 63 = omega arith in
+    rw last at (turn .inv .1 .same) ∙ ap (λ l. l ++ drop 252 (now (given .audio))) (slot-by-slot 63 (now (given .payload)))
+
+pub read-slots-spec : {M : Type 1} → statement M
+read-slots-spec =
+    tie.close
+    (tie.spec
+    Inv-loop
+    μ-loop
+    loop-holds
+    (λ c. omega arith) (λ c. omega arith) (λ c. omega arith) (λ c. omega arith) (λ c. omega arith) (λ c. omega arith) (λ c. omega arith) (λ c. omega arith) (λ c. omega arith) (λ c. omega arith) (λ c. omega arith)
+    read-slot-requires
+    (λ c. omega arith) (λ c. omega arith)
+    loop-again
+    (λ c. c .before .loop .inv .1 .long)
+    returns)

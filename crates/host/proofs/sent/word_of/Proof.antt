@@ -1,0 +1,63 @@
+-- `sent::word_of` meets its contract: an arm for each kind of word. Assumes nothing.
+use mathlib.Core.Path.{sym, _∙_}
+use native.Mathlib.Omega.{arith}
+use borrow.Author.Needs.{needs}
+use Rattle.host.specs.Sent.{said}
+use Rattle.host.proofs.Saying.{said-frequency, said-switches}
+use Rattle.host.proofs.sent.word_of.Statement.{statement}
+use Rattle.host.proofs.sent.word_of.Tie as tie
+
+settings-of-requires : tie.Need-settings-of-requires
+settings-of-requires c κs = search needs
+
+bytes-of-u32-requires : tie.Need-bytes-of-u32-requires
+bytes-of-u32-requires c κs = search needs
+
+sub-at : tie.Need-sub-at
+sub-at c = search needs
+
+cast-at : tie.Need-cast-at
+cast-at c = search needs
+
+mul-bytes-of-u32 : tie.Need-mul-bytes-of-u32
+mul-bytes-of-u32 c = search needs
+
+element-copy-out-bytes-of-u32 : tie.Need-element-copy-out-bytes-of-u32
+element-copy-out-bytes-of-u32 c = search needs
+
+bytes-of-u32-requires-2 : tie.Need-bytes-of-u32-requires-2
+bytes-of-u32-requires-2 c κs = search needs
+
+switches-of-requires : tie.Need-switches-of-requires
+switches-of-requires c κs = search needs
+
+returns : tie.Need-returns
+unfolding said
+returns c = rw (c .before .match .keys1) (c .settings-of .ensures)
+
+returns-2 : tie.Need-returns-2
+unfolding said
+returns-2 c = rw (c .before .match .keys2) (c .bytes-of-u32 .ensures)
+
+returns-3 : tie.Need-returns-3
+returns-3 c = c .bytes-of-u322 .ensures ∙ sym (said-frequency _ _ (omega arith) (omega arith))
+
+returns-4 : tie.Need-returns-4
+returns-4 c = c .switches-of .ensures ∙ sym (said-switches _ _ (omega arith))
+
+pub word-of-spec : {M : Type 1} → statement M
+word-of-spec =
+    tie.close
+    (tie.spec
+    settings-of-requires
+    bytes-of-u32-requires
+    sub-at
+    cast-at
+    mul-bytes-of-u32
+    element-copy-out-bytes-of-u32
+    bytes-of-u32-requires-2
+    switches-of-requires
+    returns
+    returns-2
+    returns-3
+    returns-4)

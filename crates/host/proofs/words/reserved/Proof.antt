@@ -1,0 +1,32 @@
+-- `words::reserved` meets its contract: the tests of the word that is carried. Assumes nothing.
+use native.Mathlib.Nat.{div-one}
+use borrow.Author.Tests.{eq-eqb, ne-eqb}
+use Rattle.host.proofs.words.reserved.Statement.{statement}
+use Rattle.host.proofs.words.reserved.Tie as tie
+
+returns : tie.Need-returns
+returns c = rw (c .before .before .match .keys1, eq-eqb _ _ (c .if1 .taken))
+
+returns-2 : tie.Need-returns-2
+returns-2 c =
+    let sourced = c .before .before in
+    let word = sourced .before .before in
+    rw (word .match .keys1, ne-eqb _ _ (sourced .if1 .left), div-one (word .before .before .args .c .c4), eq-eqb _ _ (c .if2 .taken))
+
+returns-3 : tie.Need-returns-3
+returns-3 c = rw (c .before .before .match .keys2, eq-eqb _ _ (c .if3 .taken))
+
+returns-4 : tie.Need-returns-4
+returns-4 c =
+    let sourced = c .before .before in
+    let word = sourced .before .before in
+    rw (word .match .keys1, ne-eqb _ _ (sourced .if1 .left), div-one (word .before .before .args .c .c4), ne-eqb _ _ (c .if2 .left))
+
+returns-5 : tie.Need-returns-5
+returns-5 c = rw (c .before .before .match .keys2, ne-eqb _ _ (c .if3 .left))
+
+returns-6 : tie.Need-returns-6
+returns-6 c = rw (ne-eqb _ 0 (c .match .rest .0 .1), ne-eqb _ 9 (c .match .rest .1))
+
+pub reserved-spec : {M : Type 1} → statement M
+reserved-spec = tie.close (tie.spec returns returns-2 returns-3 returns-4 returns-5 returns-6)

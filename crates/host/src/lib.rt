@@ -1,0 +1,156 @@
+// What a host program tells its radio: the host record, and host frames read and built.
+//
+// `read` takes a frame apart into the caller's samples and the next host record. `Builder::build` writes
+// the frame whose word is due, so that a record left unchanged is wholly sent within ten builds. Both
+// take what they are given: what cannot be read or built is refused by its number, and a refusal
+// changes nothing.
+pub mod record;
+pub mod samples;
+pub mod sent;
+pub mod words;
+
+ghost use mathlib.Core.Path.{_≡_};
+ghost use Prim.Native.Nat.{_≤_};
+ghost use Rattle.wire.specs.Answers.{first};
+ghost use Rattle.host.specs.Build.{refusals as unfit, gave as built, buildOf, freshBuilder, ranges, nextTurn};
+ghost use Rattle.host.specs.Read.{refusals, gave, readOf};
+use record::Host;
+use samples::read_slots;
+use samples::write_slots;
+use sent::put_head;
+use wire::Answer;
+use wire::number;
+use wire::sync::sync_at;
+use words::control_of;
+use words::next;
+use words::reserved;
+
+// The address of the word that came, and the record after it.
+pub struct Reading {
+    pub answer: Answer,
+    pub address: u8,
+    pub host: Host,
+}
+
+// Reads a host frame: its 252 numbers over the start of audio, its word into the record.
+pub fn read(frame: &[u8], audio: &mut [i16], host: Host) -> Reading
+    ensures { λ r. ⌜ gave r (now (audio .exit)) ≡ readOf (now (frame .entry)) (now (audio .entry)) host ⌝ }
+{
+    let answer = refusal(frame, audio.len());
+    if number(answer) != 0 {
+        return Reading {
+            answer,
+            address: 0,
+            host,
+        };
+    }
+    read_slots(&frame[8..], audio);
+    let c = control_of(frame);
+    Reading {
+        answer,
+        address: c.c0 / 2 % 128,
+        host: next(c, host),
+    }
+}
+
+// The first refusal that holds of a frame, with room for so many numbers.
+pub(crate) fn refusal(frame: &[u8], room: usize) -> Answer
+    ensures { λ r. ⌜ r ≡ first (refusals (now (frame .entry)) room) ⌝ }
+{
+    if frame.len() != 512 {
+        return Answer::Length;
+    }
+    if room < 252 {
+        return Answer::ShortBuffer;
+    }
+    if sync_at(frame, 0) {
+        reserved(control_of(frame))
+    } else {
+        Answer::NoSync
+    }
+}
+
+// A host record and the word that is due, 0 to 9.
+pub struct Builder {
+    pub host: Host,
+    pub turn: u8,
+}
+
+pub struct Built {
+    pub answer: Answer,
+    pub builder: Builder,
+}
+
+impl Builder {
+    pub fn fresh() -> Builder
+        ensures { λ r. ⌜ r ≡ freshBuilder ⌝ }
+    {
+        Builder {
+            host: Host::fresh(),
+            turn: 0,
+        }
+    }
+
+    // Writes the frame whose word is the turn's, with the first 252 numbers of audio.
+    pub fn build(self, audio: &[i16], frame: &mut [u8]) -> Built
+        ensures { λ r. ⌜ built r (now (frame .exit)) ≡ buildOf self (now (audio .entry)) (now (frame .entry)) ⌝ }
+    {
+        let host = self.host;
+        let turn = self.turn;
+        let answer = self.obstacle(audio.len(), frame.len());
+        if number(answer) != 0 {
+            return Built {
+                answer,
+                builder: self,
+            };
+        }
+        put_head(frame, turn, host);
+        write_slots(&mut frame[8..], audio);
+        Built {
+            answer,
+            builder: Builder {
+                host,
+                turn: turn_after(turn),
+            },
+        }
+    }
+
+    // The first refusal that holds of a build, with count numbers and room for so many bytes.
+    pub(crate) fn obstacle(self, count: usize, room: usize) -> Answer
+        ensures { λ r. ⌜ r ≡ first (unfit self count room) ⌝ }
+    {
+        let host = self.host;
+        if 9 < self.turn {
+            return Answer::BadState;
+        }
+        if room != 512 {
+            return Answer::Length;
+        }
+        if count < 252 {
+            return Answer::ShortBuffer;
+        }
+        out_of_range(host.outputs, host.receivers)
+    }
+}
+
+pub(crate) fn out_of_range(outputs: u8, receivers: u8) -> Answer
+    ensures { λ r. ⌜ r ≡ first (ranges outputs receivers) ⌝ }
+{
+    if 127 < outputs {
+        return Answer::Range;
+    }
+    if receivers < 1 {
+        return Answer::Range;
+    }
+    if 8 < receivers {
+        return Answer::Range;
+    }
+    Answer::Accepted
+}
+
+pub(crate) fn turn_after(turn: u8) -> u8
+    requires { ⌜ turn ≤ 9 ⌝ }
+    ensures { λ r. ⌜ r ≡ nextTurn turn ⌝ }
+{
+    if turn == 9 { 0 } else { turn + 1 }
+}

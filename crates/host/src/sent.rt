@@ -1,0 +1,129 @@
+// The bytes of each word, as the builder sends it.
+ghost use mathlib.Core.Path.{_≡_};
+ghost use mathlib.Core.List.{_++_};
+ghost use Prim.Native.Nat.{_≤_};
+ghost use lib.ListN.{length, drop};
+ghost use Rattle.host.specs.Sent.{InRange, c1Of, c2Of, c3Of, c4Of, settingsBytes, switchesBytes, said, headOf};
+use crate::record::Host;
+use wire::fields::eight_flags;
+use wire::fields::flag_of;
+use wire::numbers::bytes_of_u32;
+
+// Sync and C0 to C4 over the start of a frame.
+pub(crate) fn put_head(frame: &mut [u8], turn: u8, host: Host)
+    requires { ⌜ (8 ≤ length (now frame)) × (turn ≤ 9) × InRange host ⌝ }
+    ensures { λ r. ⌜ now (frame .exit) ≡ headOf turn host ++ drop 8 (now (frame .entry)) ⌝ }
+{
+    let bytes = word_of(turn, host);
+    let c0 = flag_of(host.mox) + turn * 2;
+    frame[0] = 0x7f;
+    frame[1] = 0x7f;
+    frame[2] = 0x7f;
+    frame[3] = c0;
+    frame[4] = bytes[0];
+    frame[5] = bytes[1];
+    frame[6] = bytes[2];
+    frame[7] = bytes[3];
+}
+
+// C1 to C4 of the word that is due.
+pub(crate) fn word_of(turn: u8, host: Host) -> [u8; 4]
+    requires { ⌜ InRange host ⌝ }
+    ensures { λ r. ⌜ r ≡ said turn host ⌝ }
+{
+    match turn {
+        0 => settings_of(host),
+        1 => bytes_of_u32(host.transmitter),
+        2..=8 => {
+            let at = (turn - 2) as usize;
+            bytes_of_u32(host.frequencies[at])
+        }
+        _ => switches_of(host),
+    }
+}
+
+pub(crate) fn settings_of(host: Host) -> [u8; 4]
+    requires { ⌜ InRange host ⌝ }
+    ensures { λ r. ⌜ r ≡ settingsBytes host ⌝ }
+{
+    [c1_of(host), c2_of(host), c3_of(host), c4_of(host)]
+}
+
+pub(crate) fn switches_of(host: Host) -> [u8; 4]
+    ensures { λ r. ⌜ r ≡ switchesBytes host ⌝ }
+{
+    let c = host.controls;
+    let h = host.highpass;
+    let l = host.lowpass;
+    [
+        host.drive,
+        eight_flags(
+            c.boost,
+            c.linein,
+            c.filter,
+            c.tuner,
+            c.tune,
+            c.board,
+            c.manual,
+            c.vna,
+        ),
+        eight_flags(
+            h.mhz13,
+            h.mhz20,
+            h.mhz9,
+            h.mhz6,
+            h.mhz1,
+            h.bypass,
+            h.amplifier,
+            h.trdisabled,
+        ),
+        eight_flags(l.m30, l.m60, l.m80, l.m160, l.m6, l.m12, l.m17, false),
+    ]
+}
+
+pub(crate) fn c1_of(host: Host) -> u8
+    ensures { λ r. ⌜ r ≡ c1Of host ⌝ }
+{
+    let speed = host.speed;
+    let source10 = host.source10;
+    let source122 = host.source122;
+    let boards = host.boards;
+    let microphone = host.microphone;
+    speed.code()
+        + source10.code() * 4
+        + source122.code() * 16
+        + boards.code() * 32
+        + microphone.code() * 128
+}
+
+pub(crate) fn c2_of(host: Host) -> u8
+    requires { ⌜ host .outputs ≤ 127 ⌝ }
+    ensures { λ r. ⌜ r ≡ c2Of host ⌝ }
+{
+    flag_of(host.classe) + host.outputs * 2
+}
+
+pub(crate) fn c3_of(host: Host) -> u8
+    ensures { λ r. ⌜ r ≡ c3Of host ⌝ }
+{
+    let attenuator = host.attenuator;
+    let antenna = host.antenna;
+    attenuator.code()
+        + flag_of(host.preamp) * 4
+        + flag_of(host.dither) * 8
+        + flag_of(host.random) * 16
+        + antenna.code() * 32
+        + flag_of(host.rxout) * 128
+}
+
+pub(crate) fn c4_of(host: Host) -> u8
+    requires { ⌜ (1 ≤ host .receivers) × (host .receivers ≤ 8) ⌝ }
+    ensures { λ r. ⌜ r ≡ c4Of host ⌝ }
+{
+    let relay = host.relay;
+    relay.code()
+        + flag_of(host.duplex) * 4
+        + (host.receivers - 1) * 8
+        + flag_of(host.timestamp) * 64
+        + flag_of(host.common) * 128
+}
