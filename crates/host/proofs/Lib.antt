@@ -10,7 +10,6 @@ pub mod Sameness
 pub mod Told
 pub mod Fresh
 pub mod Settled
-pub mod Rows
 pub mod Saying
 pub mod BuildCases
 pub mod SampleTrip

@@ -12,4 +12,3 @@ pub mod Sound
 pub mod Cut
 pub mod Resync
 pub mod Settled
-pub mod Rows

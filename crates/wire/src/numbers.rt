@@ -5,6 +5,10 @@ ghost use Prim.Native.Nat.{_^_, _<_, _≤_, _+_};
 ghost use Rattle.wire.specs.Every.{allFit};
 ghost use Rattle.wire.specs.Numbers.{be, bytesOf, signed, unsigned, fits, signedBy, unsignedBy};
 
+// The bytes of a number, the highest first.
+pub type Bytes2 = [u8; 2];
+pub type Bytes4 = [u8; 4];
+
 // The bytes of a 24-bit sample, and whether the number that was given fits them.
 pub struct Written24 {
     pub fits: bool,
@@ -29,13 +33,13 @@ pub fn be32(a: u8, b: u8, c: u8, d: u8) -> u32
     (a as u32) * 16777216 + (b as u32) * 65536 + (c as u32) * 256 + (d as u32)
 }
 
-pub fn bytes_of_u16(n: u16) -> [u8; 2]
+pub fn bytes_of_u16(n: u16) -> Bytes2
     ensures { λ r. ⌜ r ≡ bytesOf 2 n ⌝ }
 {
     [(n / 256 % 256) as u8, (n % 256) as u8]
 }
 
-pub fn bytes_of_u32(n: u32) -> [u8; 4]
+pub fn bytes_of_u32(n: u32) -> Bytes4
     ensures { λ r. ⌜ r ≡ bytesOf 4 n ⌝ }
 {
     [
@@ -60,7 +64,7 @@ pub fn sample24(a: u8, b: u8, c: u8) -> i32
     centred(be24(a, b, c), 0x80_0000)
 }
 
-pub fn bytes_of_sample16(x: i16) -> [u8; 2]
+pub fn bytes_of_sample16(x: i16) -> Bytes2
     ensures { λ r. ⌜ r ≡ bytesOf 2 (unsigned 16 x) ⌝ }
 {
     bytes_of_u16(pattern(x as i32, 0x1_0000) as u16)
