@@ -7,6 +7,7 @@ ghost use Rattle.wire.specs.Numbers.{be, bytesOf, signed, unsigned, fits
 
 // The bytes of a number, the highest first.
 pub type Bytes2 = [u8; 2];
+
 pub type Bytes4 = [u8; 4];
 
 // The bytes of a 24-bit sample, and whether the number that was given fits them.

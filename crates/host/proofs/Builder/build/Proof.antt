@@ -43,7 +43,7 @@ returns c =
     rw answered (sym (build-refused _ _ _ (λ e. c .if1 .taken (c .before .number .ensures ∙ ap numberOf answered ∙ e))))
 
 put-head-requires : tie.Need-put-head-requires
-put-head-requires c κs = let r = ready (c .before) in (omega arith, r .turn, r .range)
+put-head-requires c κs = let r = ready (c .before) in (omega arith, omega arith, r .range)
 
 sub-write-slots : tie.Need-sub-write-slots
 sub-write-slots c = let long = headed (c .before .before) in omega arith

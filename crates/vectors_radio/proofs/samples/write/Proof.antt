@@ -1,0 +1,48 @@
+-- `samples::write` is safe and ends. Assumes nothing.
+use borrow.Author.Needs.{needs}
+use Prim.Native.Nat.{_-_}
+use mathlib.Core.Path.{_≡_}
+use lib.ListN.{length}
+use Rattle.vectors_radio.proofs.samples.write.Statement.{statement}
+use Rattle.vectors_radio.proofs.samples.write.Tie as tie
+
+abbrev Inv-loop : tie.InvT-loop
+Inv-loop frame₀ pattern receivers slots pen₀ counter₀ frame pen counter = length frame ≡ length frame₀
+
+abbrev μ-loop : tie.MeasureT-loop
+μ-loop frame₀ pattern receivers slots pen₀ counter₀ frame pen counter = slots - counter
+
+loop-holds : tie.Need-loop-holds Inv-loop μ-loop
+loop-holds c = search needs
+
+write-slot-requires : tie.Need-write-slot-requires Inv-loop μ-loop
+write-slot-requires c κs = search needs
+
+add-counter : tie.Need-add-counter Inv-loop μ-loop
+add-counter c = search needs
+
+loop-less : tie.Need-loop-less Inv-loop μ-loop
+loop-less c = search needs
+
+loop-again : tie.Need-loop-again Inv-loop μ-loop
+loop-again c = search needs
+
+same-length : tie.Need-same-length Inv-loop μ-loop
+same-length c = search needs
+
+returns : tie.Need-returns Inv-loop μ-loop
+returns c = search needs
+
+pub write-spec : {M : Type 1} → statement M
+write-spec =
+    tie.close
+    (tie.spec
+    Inv-loop
+    μ-loop
+    loop-holds
+    write-slot-requires
+    add-counter
+    loop-less
+    loop-again
+    same-length
+    returns)
