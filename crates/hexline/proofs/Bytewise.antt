@@ -1,8 +1,8 @@
 -- The reading of a text byte by byte, which the calls of `take` on it come to. Assumes nothing.
-use mathlib.Core.Path.{_≡_, refl, sym, ap}
+use mathlib.Core.Path.{_≡_, refl, sym, ap, _∙_}
 use mathlib.Core.Bool.{cond}
 use mathlib.Core.List.{List, [], _∷_, _++_, append-assoc, append-nil}
-use Prim.Native.Nat.{ℕ, zero, suc, _+_, _≤_}
+use Prim.Native.Nat.{ℕ, zero, suc, _+_, _<_, _≤_}
 use native.Mathlib.Omega.{arith}
 use borrow.Author.Tests.{eqb-true, eqb-false, eq-eqb, ne-eqb}
 use lib.Dec.{eqb}
@@ -77,6 +77,19 @@ used-some r b s =
     (λ e. rw (take-newline 0 r b s e, line-used 1 r) (omega arith))
     (λ e. rw (take-byte 0 r b s e) (used-more 1 (byteOn r b) s))
 
+-- and no more than there are
+used-inside : (used : ℕ) (r : Reader) (s : List ℕ) → takeFrom used r s .used ≤ used + length s
+used-inside used r [] = rw (take-nothing used r) (omega arith)
+used-inside used r (b ∷ s) =
+    by-newline b
+    (λ e. rw (take-newline used r b s e, line-used (used + 1) r) (omega arith))
+    (λ e. rw (take-byte used r b s e) (omega (arith, used-inside (used + 1) (byteOn r b) s)))
+
+-- so that a caller's loop over a chunk ends, and stays inside it
+pub used-of : (r : Reader) (s : List ℕ) → 0 < length s → (1 ≤ takeOf r s .used) × (takeOf r s .used ≤ length s)
+used-of r [] some = absurd (omega arith)
+used-of r (b ∷ s) some = (used-some r b s, omega (arith, used-inside 0 r (b ∷ s)))
+
 calls-each : (n : ℕ) (r : Reader) (s : List ℕ) → length s ≤ n → chunkIn n r s ≡ each r s
 unfolding chunkIn
 calls-each zero r [] h = sym (each-nothing r)
@@ -89,3 +102,9 @@ calls-each (suc n) r (b ∷ s) h =
 
 pub chunk-each : (r : Reader) (s : List ℕ) → chunkOf r s ≡ each r s
 chunk-each r s = calls-each (length s) r s (omega arith)
+
+-- a chunk is what the first call finds, and then what is left of it
+pub chunk-turn : (r : Reader) (s : List ℕ) → chunkOf r s ≡ after (foundBy (takeOf r s)) (chunkOf (takeOf r s .reader) (drop (takeOf r s .used) s))
+chunk-turn r s =
+    let t = takeOf r s in
+    chunk-each r s ∙ call-behind [] s r ∙ ap (after (foundBy t)) (sym (chunk-each (t .reader) (drop (t .used) s)))

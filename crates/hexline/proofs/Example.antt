@@ -26,7 +26,7 @@ line2 = start 0x65 ++ zeros 1008
 pub text : List ℕ
 text = line1 ++ (newline ∷ line2 ++ (newline ∷ newline ∷ []))
 
-pub frameFrom : ℕ → Content
+unfoldable pub frameFrom : ℕ → Content
 frameFrom first = aFrame ((first ∷ 0x7f ∷ 0x7f ∷ 0x0c ∷ 0x01 ∷ 0xf4 ∷ 0 ∷ 0 ∷ []) ++ replicate 504 0)
 
 whole1 : unbroken line1 ≡ true
