@@ -1,0 +1,159 @@
+// Builds: a record sent whole in ten, and what is refused.
+use crate::audio;
+use crate::frames;
+use crate::print;
+use crate::reads;
+use crate::record;
+use host::Builder;
+use host::Built;
+use host::Reading;
+use host::record::Host;
+
+pub fn run() {
+    ten();
+    numbers();
+    states_and_sizes();
+    values();
+    order();
+}
+
+// A builder, and the record that another side has heard from it.
+struct Link {
+    builder: Builder,
+    heard: Host,
+}
+
+fn ten() {
+    let start = Link {
+        builder: Builder {
+            host: record::marked(),
+            turn: 0,
+        },
+        heard: Host::fresh(),
+    };
+    let end = five(five(start));
+    print::named_byte(b"after ten builds: turn ", end.builder.turn);
+    record::show(end.heard);
+}
+
+fn five(start: Link) -> Link {
+    let a = step(start);
+    let b = step(a);
+    let c = step(b);
+    let d = step(c);
+    step(d)
+}
+
+// A line for one build, whose frame is then read: both answers, the next turn, C0 to C4, the address.
+fn step(link: Link) -> Link {
+    let mut frame = [0u8; 512];
+    let builder = next(link.builder, &mut frame);
+    let heard = hear(&frame, link.heard);
+    Link { builder, heard }
+}
+
+fn next(given: Builder, frame: &mut [u8]) -> Builder {
+    print::named_byte(b"build turn ", given.turn);
+    let built = build(given, frame);
+    show_built(built);
+    print::bytes(b", C0 to C4", frame, 3, 8);
+    built.builder
+}
+
+fn hear(frame: &[u8], given: Host) -> Host {
+    let reading = reads::read_one(frame, given);
+    show_read(reading);
+    reading.host
+}
+
+fn build(builder: Builder, frame: &mut [u8]) -> Built {
+    let mut audio = [0; 252];
+    audio::fill(&mut audio);
+    builder.build(&audio, frame)
+}
+
+fn show_built(built: Built) {
+    let answer = built.answer;
+    print::answer(b": ", answer);
+    print::named_byte(b", turn ", built.builder.turn);
+}
+
+fn show_read(reading: Reading) {
+    let answer = reading.answer;
+    print::answer(b"; read ", answer);
+    print::named_byte(b", address ", reading.address);
+    print::line_end();
+}
+
+// The 252 numbers there and back.
+fn numbers() {
+    let mut frame = [0u8; 512];
+    build(Builder::fresh(), &mut frame);
+    print::bytes(b"numbers: first slot", &frame, 8, 16);
+    print::bytes(b", last slot", &frame, 504, 512);
+    back(&frame);
+}
+
+fn back(frame: &[u8]) {
+    let mut audio = [4321; 253];
+    host::read(frame, &mut audio, Host::fresh());
+    print::named(b", back ", audio::filled(&audio));
+    print::named(b", as given ", audio::unwritten(&audio));
+    print::line_end();
+}
+
+fn states_and_sizes() {
+    line(b"build turn 10", 10, 85, 7, 252, 512);
+    line(b"build 511 bytes", 5, 85, 7, 252, 511);
+    line(b"build 513 bytes", 5, 85, 7, 252, 513);
+    line(b"build 251 numbers", 5, 85, 7, 251, 512);
+}
+
+fn values() {
+    line(b"build outputs 127, receivers 1", 0, 127, 1, 252, 512);
+    line(b"build outputs 128", 5, 128, 7, 252, 512);
+    line(b"build receivers 0", 5, 85, 0, 252, 512);
+    line(b"build receivers 9", 5, 85, 9, 252, 512);
+    line(b"build receivers 8", 0, 85, 8, 252, 512);
+}
+
+// Each refusal hides those after it in the table.
+fn order() {
+    line(b"build turn 10, 511 bytes", 10, 85, 7, 252, 511);
+    line(b"build 511 bytes, 251 numbers", 9, 85, 7, 251, 511);
+    line(b"build 251 numbers, outputs 128", 9, 128, 7, 251, 512);
+}
+
+// A line for a build of a marked record with such outputs and receivers: how many of the frame's 513
+// bytes are as given, C0 to C4, and the record that comes back.
+fn line(name: &[u8], turn: u8, outputs: u8, receivers: u8, count: usize, length: usize) {
+    let mut frame = [0xaau8; 513];
+    print::text(name);
+    let built = build_parts(given(turn, outputs, receivers), count, &mut frame, length);
+    show_built(built);
+    show_frame(&frame);
+    show_host(built.builder);
+}
+
+fn show_host(builder: Builder) {
+    record::show(builder.host);
+}
+
+fn given(turn: u8, outputs: u8, receivers: u8) -> Builder {
+    let mut host = record::marked();
+    host.outputs = outputs;
+    host.receivers = receivers;
+    Builder { host, turn }
+}
+
+fn show_frame(frame: &[u8]) {
+    print::named(b", frame as given ", frames::same(frame, 0xaa));
+    print::bytes(b", C0 to C4", frame, 3, 8);
+}
+
+fn build_parts(builder: Builder, count: usize, frame: &mut [u8], length: usize) -> Built {
+    let numbers = [0; 252];
+    let cells = frames::least(count, 252);
+    let bytes = frames::least(length, frame.len());
+    builder.build(&numbers[..cells], &mut frame[..bytes])
+}

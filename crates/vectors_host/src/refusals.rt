@@ -1,0 +1,71 @@
+// Reads at the ends of what they take, and the order of their refusals.
+use crate::audio;
+use crate::frames;
+use crate::print;
+use crate::reads;
+use crate::record;
+use host::Reading;
+
+pub fn run() {
+    lengths();
+    rooms();
+    syncs();
+    order();
+}
+
+fn lengths() {
+    line(b"read 511 bytes", 511, 253, 0, 0x7f);
+    line(b"read 512 bytes", 512, 253, 0, 0x7f);
+    line(b"read 513 bytes", 513, 253, 0, 0x7f);
+}
+
+fn rooms() {
+    line(b"read 251 numbers", 512, 251, 0, 0x7f);
+    line(b"read 252 numbers", 512, 252, 0, 0x7f);
+}
+
+fn syncs() {
+    line(b"read byte 0 7E", 512, 253, 0, 0x7e);
+    line(b"read byte 1 FF", 512, 253, 1, 0xff);
+    line(b"read byte 2 00", 512, 253, 2, 0x00);
+    line(b"read C4 80", 512, 253, 7, 0x80);
+}
+
+// Each refusal hides those after it in the table.
+fn order() {
+    line(b"read 511 bytes, 251 numbers", 511, 251, 0, 0x7f);
+    line(b"read 251 numbers, byte 0 7E", 512, 251, 0, 0x7e);
+    line(b"read 251 numbers, C4 80", 512, 251, 7, 0x80);
+    no_sync_and_reserved();
+}
+
+fn no_sync_and_reserved() {
+    let mut frame = [0u8; 513];
+    frames::head(&mut frame, 0x12, 0, 0, 0, 0x80);
+    frames::put(&mut frame, 2, 0x7e);
+    print::text(b"read byte 2 7E, C4 80");
+    read_frame(&frame, 512, 253);
+}
+
+// A line for word 9 with MOX off and C4 02, so many bytes of it and room for so many numbers, one byte
+// being another: how many of 253 cells of audio are as given, what the read gave, the record after it.
+fn line(name: &[u8], length: usize, room: usize, at: usize, byte: u8) {
+    let mut frame = [0u8; 513];
+    frames::head(&mut frame, 0x12, 0, 0, 0, 0x02);
+    frames::put(&mut frame, at, byte);
+    print::text(name);
+    read_frame(&frame, length, room);
+}
+
+fn read_frame(frame: &[u8], length: usize, room: usize) {
+    let mut numbers = [4321; 253];
+    let reading = read_parts(frame, length, &mut numbers, room);
+    print::named(b": audio as given ", audio::unwritten(&numbers));
+    reads::show(reading);
+}
+
+fn read_parts(frame: &[u8], length: usize, numbers: &mut [i16], room: usize) -> Reading {
+    let bytes = frames::least(length, frame.len());
+    let cells = frames::least(room, numbers.len());
+    host::read(&frame[..bytes], &mut numbers[..cells], record::marked())
+}
