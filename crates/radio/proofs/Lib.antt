@@ -8,6 +8,7 @@ pub mod WriteCases
 pub mod Carries
 pub mod Fresh
 pub mod Settled
+pub mod Freed
 pub mod WordsBack
 pub mod SamplesBack
 pub mod FrameParts

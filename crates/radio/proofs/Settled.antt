@@ -5,10 +5,11 @@ use mathlib.Core.Path.{_≡_, sym, ap, _∙_}
 use mathlib.Core.List.{List}
 use Prim.Native.Nat.{ℕ}
 use lib.IntN.{ℤ}
-use Rattle.radio.specs.Read.{readOf, gave}
+use Rattle.radio.specs.Read.{readOf, gave, left}
 use Rattle.radio.specs.Write.{writeOf, gave as wrote}
 use Rattle.wire.specs.declared.Answer.{Answer}
 use Rattle.radio.specs.declared.Reading.{Reading}
+use Rattle.radio.specs.declared.Updated.{Updated}
 use Rattle.radio.specs.declared.record.Status.{Status}
 
 module _ (frame : List ℕ) (n : ℕ) (iq mic : List ℤ) (s : Status) where
@@ -16,6 +17,11 @@ module _ (frame : List ℕ) (n : ℕ) (iq mic : List ℤ) (s : Status) where
   read-settled r r′ iq₁ iq₂ mic₁ mic₂ one other =
       let same = one ∙ sym other in
       (ap (λ o. o .reading) same, ap (λ o. o .iq) same, ap (λ o. o .mic) same)
+
+  pub update-settled : (r r′ : Updated) (s₁ s₂ : Status) (iq₁ iq₂ mic₁ mic₂ : List ℤ) → left r s₁ iq₁ mic₁ ≡ readOf frame n iq mic s → left r′ s₂ iq₂ mic₂ ≡ readOf frame n iq mic s → (r ≡ r′) × (s₁ ≡ s₂) × (iq₁ ≡ iq₂) × (mic₁ ≡ mic₂)
+  update-settled r r′ s₁ s₂ iq₁ iq₂ mic₁ mic₂ one other =
+      let same = one ∙ sym other in
+      (ap (λ o. record { answer = o .reading .answer; word = o .reading .word }) same, ap (λ o. o .reading .status) same, ap (λ o. o .iq) same, ap (λ o. o .mic) same)
 
 module _ (s : Status) (w n : ℕ) (iq mic : List ℤ) (frame : List ℕ) where
   pub write-settled : (a a′ : Answer) (frame₁ frame₂ : List ℕ) → wrote a frame₁ ≡ writeOf s w n iq mic frame → wrote a′ frame₂ ≡ writeOf s w n iq mic frame → (a ≡ a′) × (frame₁ ≡ frame₂)

@@ -15,6 +15,7 @@ use Rattle.layout.specs.Slots.{counted, slots, padding, values}
 use Rattle.radio.specs.Samples.{iqAt, micAt}
 use Rattle.radio.specs.Words.{wordOf, applied}
 use Rattle.radio.specs.declared.Reading.{Reading}
+use Rattle.radio.specs.declared.Updated.{Updated}
 use Rattle.radio.specs.declared.record.Status.{Status}
 use Rattle.radio.specs.declared.words.Word.{Word}
 use Rattle.radio.specs.declared.words.Word.the-variants.{Unlisted}
@@ -60,6 +61,10 @@ pub record Outcome : Type 0 where
 
 abbrev pub gave : Reading → List ℤ → List ℤ → Outcome
 gave r iq mic = record { reading = r; iq = iq; mic = mic }
+
+-- the same of an update: what it gave, with the lent record at exit
+abbrev pub left : Updated → Status → List ℤ → List ℤ → Outcome
+left r s iq mic = gave (record { answer = r .answer; word = r .word; status = s }) iq mic
 
 -- a refusal writes nothing, returns the record given and the word unlisted 0
 abbrev pub refused : Answer → List ℤ → List ℤ → Status → Outcome

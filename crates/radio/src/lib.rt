@@ -22,7 +22,7 @@ ghost use Prim.Native.Nat.{_≤_};
 ghost use lib.ListN.{length};
 ghost use Rattle.wire.specs.declared.Answer.the-variants.{Accepted};
 ghost use Rattle.layout.specs.Slots.{rowOf, values, slots};
-ghost use Rattle.radio.specs.Read.{readOf, gave, frameAnswer, byte, word};
+ghost use Rattle.radio.specs.Read.{readOf, gave, left, frameAnswer, byte, word};
 ghost use Rattle.radio.specs.Write.{writeOf, gave as wrote, frameOf, laterAnswer, versionsFit, Versioned};
 ghost use Rattle.radio.specs.Words.{applied};
 ghost use Rattle.radio.specs.declared.words.Word.the-variants.{Unlisted};
@@ -56,6 +56,31 @@ pub fn read(
     }
     samples::read_samples(&frame[8..], receivers, row, iq, mic);
     accepted(frame, status)
+}
+
+// What an update gives beside the record: the answer and the word, as a read gives them.
+pub struct Updated {
+    pub answer: Answer,
+    pub word: Word,
+}
+
+// A read whose record stands where it is lent: it is the record given and then the record after the
+// frame. Refused, it is left as it was.
+pub fn update(
+    frame: &[u8],
+    receivers: usize,
+    iq: &mut [i32],
+    mic: &mut [i16],
+    status: &mut Status,
+) -> Updated
+    ensures { λ r. ⌜ left r (now (status .exit)) (now (iq .exit)) (now (mic .exit)) ≡ readOf (now (frame .entry)) receivers (now (iq .entry)) (now (mic .entry)) (now (status .entry)) ⌝ }
+{
+    let reading = read(frame, receivers, iq, mic, *status);
+    *status = reading.status;
+    Updated {
+        answer: reading.answer,
+        word: reading.word,
+    }
 }
 
 fn refused(answer: Answer, status: Status) -> Reading
