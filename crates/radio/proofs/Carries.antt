@@ -1,9 +1,11 @@
 -- A word changes the fields it carries and no others: DOT, DASH and PTT follow every word, and whatever record a word is read
 -- into, the fields that it does not carry come out as they went in. Assumes nothing.
 use mathlib.Core.Path.{_≡_, refl}
-use Prim.Native.Nat.{ℕ}
+use Prim.Native.Nat.{ℕ, zero, suc}
+use native.Mathlib.Omega.{arith}
+use borrow.Author.Tests.{ne-eqb}
 use Rattle.radio.specs.Carried.{fieldsOf, carries, unmarked}
-use Rattle.radio.specs.Words.{applied, dotOf, dashOf, pttOf}
+use Rattle.radio.specs.Words.{applied, dotOf, dashOf, pttOf, wordAt, wordNumber}
 use Rattle.radio.specs.declared.record.Status.{Status}
 use Rattle.radio.specs.declared.words.Word.{Word}
 use Rattle.radio.specs.declared.words.Word.the-variants.{Input, Forward, Reverse, Supply, Board, Unlisted}
@@ -25,3 +27,14 @@ keys-follow (Reverse l) c0 s = (refl, refl, refl)
 keys-follow (Supply l) c0 s = (refl, refl, refl)
 keys-follow (Board w) c0 s = (refl, refl, refl)
 keys-follow (Unlisted a) c0 s = (refl, refl, refl)
+
+-- the word that is told is the one that the frame addressed
+pub word-addressed : (at c1 c2 c3 c4 : ℕ) → wordNumber (wordAt at c1 c2 c3 c4) ≡ at
+word-addressed zero c1 c2 c3 c4 = refl
+word-addressed (suc zero) c1 c2 c3 c4 = refl
+word-addressed (suc (suc zero)) c1 c2 c3 c4 = refl
+word-addressed (suc (suc (suc zero))) c1 c2 c3 c4 = refl
+word-addressed (suc (suc (suc (suc zero)))) c1 c2 c3 c4 = refl
+word-addressed (suc (suc (suc (suc (suc at))))) c1 c2 c3 c4 =
+    let a = suc (suc (suc (suc (suc at)))) in
+    rw (ne-eqb a 0 (λ e. omega arith), ne-eqb a 1 (λ e. omega arith), ne-eqb a 2 (λ e. omega arith), ne-eqb a 3 (λ e. omega arith), ne-eqb a 4 (λ e. omega arith))

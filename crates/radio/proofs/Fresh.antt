@@ -1,10 +1,14 @@
 -- "A fresh status record is what all-zero words give": five frames, one for each word, whose bytes C1 to C4 are 0 and whose keys
 -- are off, read into any record, leave the fresh one. Assumes nothing.
-use mathlib.Core.Path.{_≡_, refl}
+use mathlib.Core.Path.{_≡_, refl, ap}
 use mathlib.Core.List.{List}
 use Prim.Native.Nat.{ℕ, _*_, _<_}
 use native.Mathlib.Omega.{arith}
-use Rattle.radio.specs.Read.{byte, after}
+use lib.IntN.{ℤ}
+use lib.ListN.{length}
+use Rattle.wire.specs.declared.Answer.the-variants.{Accepted}
+use Rattle.radio.specs.Read.{byte, after, answerOf, readOf}
+use Rattle.radio.proofs.Cases.{read-taken}
 use Rattle.radio.specs.Record.{freshStatus}
 use Rattle.radio.specs.Words.{wordOf, applied}
 use Rattle.radio.specs.declared.record.Status.{Status}
@@ -31,3 +35,16 @@ pub zero-words-give-fresh : (frames : ℕ → List ℕ) → ((w : ℕ) → w < 5
 zero-words-give-fresh frames zero s =
     rw (after-zero 0 (frames 0) (zero 0 (omega arith)) s, after-zero 1 (frames 1) (zero 1 (omega arith)), after-zero 2 (frames 2) (zero 2 (omega arith)), after-zero 3 (frames 3) (zero 3 (omega arith)), after-zero 4 (frames 4) (zero 4 (omega arith)))
     (five-zeroed s)
+
+-- the same of five reads, each accepted, with whatever slices are lent
+module _ (frames : ℕ → List ℕ) (n : ℕ) (iq mic : ℕ → List ℤ) (accepted : (w : ℕ) → w < 5 → answerOf (frames w) n (length (iq w)) (length (mic w)) ≡ Accepted) where
+  abbrev status-after : ℕ → Status → Status
+  status-after w s = readOf (frames w) n (iq w) (mic w) s .reading .status
+
+  one-read : (w : ℕ) → w < 5 → (s : Status) → status-after w s ≡ after (frames w) s
+  one-read w below s = ap (λ o. o .reading .status) (read-taken (frames w) n (iq w) (mic w) s (accepted w below))
+
+  pub five-reads-give-fresh : ((w : ℕ) → w < 5 → ZeroWord w (frames w)) → (s : Status) → status-after 4 (status-after 3 (status-after 2 (status-after 1 (status-after 0 s)))) ≡ freshStatus
+  five-reads-give-fresh zero s =
+      rw (one-read 0 (omega arith) s, one-read 1 (omega arith), one-read 2 (omega arith), one-read 3 (omega arith), one-read 4 (omega arith))
+      (zero-words-give-fresh frames zero s)

@@ -86,6 +86,15 @@ wordAt at c1 c2 c3 c4 =
 abbrev pub wordOf : ℕ → ℕ → ℕ → ℕ → ℕ → Word
 wordOf c0 c1 c2 c3 c4 = wordAt (address c0) c1 c2 c3 c4
 
+-- the number that document 01 gives each choice: the word's address
+abbrev pub wordNumber : Word → ℕ
+wordNumber (Input w) = 0
+wordNumber (Forward l) = 1
+wordNumber (Reverse l) = 2
+wordNumber (Supply l) = 3
+wordNumber (Board w) = 4
+wordNumber (Unlisted at) = at
+
 -- "These three are set by every accepted frame, also by one with an unlisted address."
 abbrev pub keyed : ℕ → Status → Status
 keyed c0 s =
