@@ -103,36 +103,48 @@ fn back(frame: &[u8]) {
 }
 
 fn states_and_sizes() {
-    line(b"build turn 10", 10, 85, 7, 252, 512);
-    line(b"build 511 bytes", 5, 85, 7, 252, 511);
-    line(b"build 513 bytes", 5, 85, 7, 252, 513);
-    line(b"build 251 numbers", 5, 85, 7, 251, 512);
+    line(10, 85, 7, 252, 512);
+    line(5, 85, 7, 252, 511);
+    line(5, 85, 7, 252, 513);
+    line(5, 85, 7, 251, 512);
 }
 
 fn values() {
-    line(b"build outputs 127, receivers 1", 0, 127, 1, 252, 512);
-    line(b"build outputs 128", 5, 128, 7, 252, 512);
-    line(b"build receivers 0", 5, 85, 0, 252, 512);
-    line(b"build receivers 9", 5, 85, 9, 252, 512);
-    line(b"build receivers 8", 0, 85, 8, 252, 512);
+    line(0, 127, 1, 252, 512);
+    line(5, 128, 7, 252, 512);
+    line(5, 85, 0, 252, 512);
+    line(5, 85, 9, 252, 512);
+    line(0, 85, 8, 252, 512);
 }
 
 // Each refusal hides those after it in the table.
 fn order() {
-    line(b"build turn 10, 511 bytes", 10, 85, 7, 252, 511);
-    line(b"build 511 bytes, 251 numbers", 9, 85, 7, 251, 511);
-    line(b"build 251 numbers, outputs 128", 9, 128, 7, 251, 512);
+    line(10, 85, 7, 252, 511);
+    line(9, 85, 7, 251, 511);
+    line(9, 128, 7, 251, 512);
 }
 
 // A line for a build of a marked record with such outputs and receivers: how many of the frame's 513
 // bytes are as given, C0 to C4, and the record that comes back.
-fn line(name: &[u8], turn: u8, outputs: u8, receivers: u8, count: usize, length: usize) {
+fn line(turn: u8, outputs: u8, receivers: u8, count: usize, length: usize) {
     let mut frame = [0xaau8; 513];
-    print::text(name);
+    show_given(turn, outputs, receivers);
+    show_sizes(count, length);
     let built = build_parts(given(turn, outputs, receivers), count, &mut frame, length);
     show_built(built);
     show_frame(&frame);
     show_host(built.builder);
+}
+
+fn show_given(turn: u8, outputs: u8, receivers: u8) {
+    print::named_byte(b"build turn ", turn);
+    print::named_byte(b", outputs ", outputs);
+    print::named_byte(b", receivers ", receivers);
+}
+
+fn show_sizes(count: usize, length: usize) {
+    print::named(b", numbers ", count as u64);
+    print::named(b", bytes ", length as u64);
 }
 
 fn show_host(builder: Builder) {

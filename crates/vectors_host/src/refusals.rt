@@ -14,28 +14,28 @@ pub fn run() {
 }
 
 fn lengths() {
-    line(b"read 511 bytes", 511, 253, 0, 0x7f);
-    line(b"read 512 bytes", 512, 253, 0, 0x7f);
-    line(b"read 513 bytes", 513, 253, 0, 0x7f);
+    line(511, 253, 0, 0x7f);
+    line(512, 253, 0, 0x7f);
+    line(513, 253, 0, 0x7f);
 }
 
 fn rooms() {
-    line(b"read 251 numbers", 512, 251, 0, 0x7f);
-    line(b"read 252 numbers", 512, 252, 0, 0x7f);
+    line(512, 251, 0, 0x7f);
+    line(512, 252, 0, 0x7f);
 }
 
 fn syncs() {
-    line(b"read byte 0 7E", 512, 253, 0, 0x7e);
-    line(b"read byte 1 FF", 512, 253, 1, 0xff);
-    line(b"read byte 2 00", 512, 253, 2, 0x00);
-    line(b"read C4 80", 512, 253, 7, 0x80);
+    line(512, 253, 0, 0x7e);
+    line(512, 253, 1, 0xff);
+    line(512, 253, 2, 0x00);
+    line(512, 253, 7, 0x80);
 }
 
 // Each refusal hides those after it in the table.
 fn order() {
-    line(b"read 511 bytes, 251 numbers", 511, 251, 0, 0x7f);
-    line(b"read 251 numbers, byte 0 7E", 512, 251, 0, 0x7e);
-    line(b"read 251 numbers, C4 80", 512, 251, 7, 0x80);
+    line(511, 251, 0, 0x7f);
+    line(512, 251, 0, 0x7e);
+    line(512, 251, 7, 0x80);
     no_sync_and_reserved();
 }
 
@@ -49,12 +49,19 @@ fn no_sync_and_reserved() {
 
 // A line for word 9 with MOX off and C4 02, so many bytes of it and room for so many numbers, one byte
 // being another: how many of 253 cells of audio are as given, what the read gave, the record after it.
-fn line(name: &[u8], length: usize, room: usize, at: usize, byte: u8) {
+fn line(length: usize, room: usize, at: usize, byte: u8) {
     let mut frame = [0u8; 513];
     frames::head(&mut frame, 0x12, 0, 0, 0, 0x02);
     frames::put(&mut frame, at, byte);
-    print::text(name);
+    show_case(length, room, at, byte);
     read_frame(&frame, length, room);
+}
+
+fn show_case(length: usize, room: usize, at: usize, byte: u8) {
+    print::named(b"read bytes ", length as u64);
+    print::named(b", numbers ", room as u64);
+    print::named(b", byte ", at as u64);
+    print::named_byte(b" is ", byte);
 }
 
 fn read_frame(frame: &[u8], length: usize, room: usize) {

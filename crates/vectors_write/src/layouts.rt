@@ -8,62 +8,34 @@ use radio::record::Status;
 use std::num::wrapping_sub_usize;
 use wire::Answer;
 
-// What a receiver count needs by document 01's table: I and Q values, slots, and the place of the first
-// padding byte.
-struct Needs {
-    receivers: usize,
-    iq: usize,
-    mic: usize,
-    padding: usize,
-}
-
 pub fn run() {
-    few_receivers();
-    many_receivers();
-}
-
-fn few_receivers() {
     layout(1, 126, 63, 512);
     layout(2, 144, 36, 512);
     layout(3, 150, 25, 508);
     layout(4, 152, 19, 502);
-}
-
-fn many_receivers() {
     layout(5, 150, 15, 488);
     layout(6, 156, 13, 502);
     layout(7, 154, 11, 492);
     layout(8, 160, 10, 508);
 }
 
+// A receiver count, and what it needs by document 01's table: I and Q values, slots, and the place of the
+// first padding byte.
 fn layout(receivers: usize, iq: usize, mic: usize, padding: usize) {
-    let needs = Needs {
-        receivers,
-        iq,
-        mic,
-        padding,
-    };
-    slices(needs);
-    bad_samples(needs);
-    round(needs);
-}
-
-fn slices(needs: Needs) {
-    lent(needs.receivers, wrapping_sub_usize(needs.iq, 1), needs.mic);
-    lent(needs.receivers, needs.iq, wrapping_sub_usize(needs.mic, 1));
-    lent(needs.receivers, needs.iq, needs.mic);
-}
-
-fn bad_samples(needs: Needs) {
-    bad_sample(needs.receivers, wrapping_sub_usize(needs.iq, 1));
-    bad_sample(needs.receivers, needs.iq);
+    let short = wrapping_sub_usize(iq, 1);
+    lent(receivers, short, mic);
+    lent(receivers, iq, wrapping_sub_usize(mic, 1));
+    lent(receivers, iq, mic);
+    bad_sample(receivers, short);
+    bad_sample(receivers, iq);
+    round(receivers, padding);
 }
 
 fn lent(receivers: usize, iq: usize, mic: usize) {
     print::named(b"write count ", receivers as u64);
     print::named(b", iq ", iq as u64);
     print::named(b" mic ", mic as u64);
-    refusals::lent(b"", receivers, iq, mic);
+    refusals::faults(b"", 0, receivers, 512, iq, mic, 0);
 }
 
 fn bad_sample(receivers: usize, at: usize) {
@@ -73,15 +45,12 @@ fn bad_sample(receivers: usize, at: usize) {
 }
 
 // The frame held FF in every byte.
-fn round(needs: Needs) {
+fn round(receivers: usize, padding: usize) {
     let mut frame = [0xffu8; 512];
-    print::named(b"write count ", needs.receivers as u64);
-    print::answer(
-        b", ends of the range: ",
-        write_ends(needs.receivers, &mut frame),
-    );
-    read_back(&frame, needs.receivers);
-    print::named(b", padding 0 ", cells::count(&frame, needs.padding, 0));
+    print::named(b"write count ", receivers as u64);
+    print::answer(b", ends of the range: ", write_ends(receivers, &mut frame));
+    read_back(&frame, receivers);
+    print::named(b", padding 0 ", cells::count(&frame, padding, 0));
     print::line_end();
 }
 

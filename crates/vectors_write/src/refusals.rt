@@ -19,56 +19,41 @@ struct Case {
 }
 
 pub fn run() {
-    lengths();
-    ends_of_range();
-    beyond_the_range();
-    words();
-    versions_above();
-    versions_within();
+    numbers();
+    samples();
+    boards();
     two_faults();
-    more_faults();
 }
 
-fn lengths() {
+fn numbers() {
     faults(b"write count 0", 0, 0, 512, 161, 64, 0);
     faults(b"write count 9", 0, 9, 512, 161, 64, 0);
     faults(b"write 511 bytes", 0, 3, 511, 161, 64, 0);
     faults(b"write 512 bytes", 0, 3, 512, 161, 64, 0);
     faults(b"write 513 bytes", 0, 3, 513, 161, 64, 0);
+    faults(b"write word 4", 4, 3, 512, 161, 64, 0);
+    faults(b"write word 5", 5, 3, 512, 161, 64, 0);
+    faults(b"write word 256", 256, 3, 512, 161, 64, 0);
 }
 
 // Three receivers need 150 values.
-fn ends_of_range() {
-    sample(b"write sample 0 8388607", 3, 0, 8388607);
-    sample(b"write sample 0 -8388608", 3, 0, -8388608);
-    sample(b"write sample 149 8388607", 3, 149, 8388607);
-    sample(b"write sample 149 -8388608", 3, 149, -8388608);
-}
-
-fn beyond_the_range() {
+fn samples() {
     sample(b"write sample 0 8388608", 3, 0, 8388608);
     sample(b"write sample 0 -8388609", 3, 0, -8388609);
+    sample(b"write sample 149 8388607", 3, 149, 8388607);
+    sample(b"write sample 149 -8388608", 3, 149, -8388608);
     sample(b"write sample 149 8388608", 3, 149, 8388608);
     sample(b"write sample 149 -8388609", 3, 149, -8388609);
     sample(b"write sample 150 8388608", 3, 150, 8388608);
     sample(b"write sample 150 -8388609", 3, 150, -8388609);
 }
 
-fn words() {
-    faults(b"write word 4", 4, 3, 512, 161, 64, 0);
-    faults(b"write word 5", 5, 3, 512, 161, 64, 0);
-    faults(b"write word 256", 256, 3, 512, 161, 64, 0);
-}
-
 // The record is tested whole, while word 0 is due.
-fn versions_above() {
+fn boards() {
     versions(b"write version 1 128", 128, 0, 0, 0);
     versions(b"write version 2 128", 0, 128, 0, 0);
     versions(b"write version 3 128", 0, 0, 128, 0);
     versions(b"write version 4 128", 0, 0, 0, 128);
-}
-
-fn versions_within() {
     versions(b"write version 1 127", 127, 0, 0, 0);
     versions(b"write version 2 127", 0, 127, 0, 0);
     versions(b"write version 3 127", 0, 0, 127, 0);
@@ -81,17 +66,13 @@ fn two_faults() {
     faults(b"write count 9 and word 5", 5, 9, 512, 161, 64, 0);
     faults(b"write 511 bytes and iq 149", 0, 3, 511, 149, 64, 0);
     faults(b"write 513 bytes and mic 24", 0, 3, 513, 161, 24, 0);
-}
-
-fn more_faults() {
-    faults(b"write 511 bytes and sample", 0, 3, 511, 161, 64, 8388608);
     faults(b"write iq 149 and word 5", 5, 3, 512, 149, 64, 0);
     faults(b"write mic 24 and sample", 0, 3, 512, 161, 24, 8388608);
     faults(b"write all four", 5, 9, 511, 0, 0, 8388608);
     faults(b"write all but count", 5, 3, 511, 0, 0, 8388608);
 }
 
-fn faults(
+pub fn faults(
     name: &[u8],
     word: usize,
     receivers: usize,
@@ -129,10 +110,6 @@ pub fn sample(name: &[u8], receivers: usize, at: usize, sample: i32) {
             sample,
         },
     );
-}
-
-pub fn lent(name: &[u8], receivers: usize, iq: usize, mic: usize) {
-    faults(name, 0, receivers, 512, iq, mic, 0);
 }
 
 fn versions(name: &[u8], board1: u8, board2: u8, board3: u8, board4: u8) {

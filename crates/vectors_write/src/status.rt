@@ -65,8 +65,23 @@ pub fn flagged(flag: usize) -> Status {
         dot: flag == 0,
         dash: flag == 1,
         ptt: flag == 2,
-        overflow: overflow(flag),
-        inputs: inputs(flag),
+        overflow: Overflow {
+            adc1: flag == 3,
+            adc2: flag == 4,
+            adc3: flag == 5,
+            adc4: flag == 6,
+        },
+        inputs: Inputs {
+            io1: flag != 7,
+            io2: flag != 8,
+            io3: flag != 9,
+            io4: flag != 10,
+            pll: flag == 11,
+            toggle: flag == 12,
+            mercury: 0,
+            penelope: 0,
+            main: 0,
+        },
         forward: ForwardLevels { ain5: 0, ain1: 0 },
         reverse: ReverseLevels { ain2: 0, ain3: 0 },
         supply: SupplyLevels { ain4: 0, ain6: 0 },
@@ -76,28 +91,5 @@ pub fn flagged(flag: usize) -> Status {
             board3: 0,
             board4: 0,
         },
-    }
-}
-
-fn overflow(flag: usize) -> Overflow {
-    Overflow {
-        adc1: flag == 3,
-        adc2: flag == 4,
-        adc3: flag == 5,
-        adc4: flag == 6,
-    }
-}
-
-fn inputs(flag: usize) -> Inputs {
-    Inputs {
-        io1: flag != 7,
-        io2: flag != 8,
-        io3: flag != 9,
-        io4: flag != 10,
-        pll: flag == 11,
-        toggle: flag == 12,
-        mercury: 0,
-        penelope: 0,
-        main: 0,
     }
 }

@@ -6,10 +6,8 @@ use wire::Answer;
 
 pub fn run() {
     chosen();
-    keys();
-    low_bits();
-    high_bits();
-    boards();
+    keys_and_boards();
+    bits_of_c1();
 }
 
 fn chosen() {
@@ -20,30 +18,24 @@ fn chosen() {
     whole(b"write chosen, word 4", 4);
 }
 
-fn keys() {
+fn keys_and_boards() {
     flag(b"write DOT, word 3", 0, 3);
     flag(b"write DASH, word 3", 1, 3);
     flag(b"write PTT, word 3", 2, 3);
-}
-
-fn low_bits() {
-    flag(b"write ADC 1, word 0", 3, 0);
-    flag(b"write IO1 off, word 0", 7, 0);
-    flag(b"write IO2 off, word 0", 8, 0);
-    flag(b"write IO3 off, word 0", 9, 0);
-}
-
-fn high_bits() {
-    flag(b"write IO4 off, word 0", 10, 0);
-    flag(b"write PLL, word 0", 11, 0);
-    flag(b"write toggle, word 0", 12, 0);
-}
-
-fn boards() {
     flag(b"write ADC 1, word 4", 3, 4);
     flag(b"write ADC 2, word 4", 4, 4);
     flag(b"write ADC 3, word 4", 5, 4);
     flag(b"write ADC 4, word 4", 6, 4);
+}
+
+fn bits_of_c1() {
+    flag(b"write ADC 1, word 0", 3, 0);
+    flag(b"write IO1 off, word 0", 7, 0);
+    flag(b"write IO2 off, word 0", 8, 0);
+    flag(b"write IO3 off, word 0", 9, 0);
+    flag(b"write IO4 off, word 0", 10, 0);
+    flag(b"write PLL, word 0", 11, 0);
+    flag(b"write toggle, word 0", 12, 0);
 }
 
 fn whole(name: &[u8], number: usize) {
