@@ -8,7 +8,8 @@ pub mod WriteCases
 pub mod Carries
 pub mod Fresh
 pub mod Settled
-pub mod Freed
+pub mod Locals
+pub mod Begins
 pub mod WordsBack
 pub mod SamplesBack
 pub mod FrameParts

@@ -6,6 +6,7 @@ use mathlib.Core.List.{List}
 use Prim.Native.Nat.{ℕ}
 use lib.IntN.{ℤ}
 use Rattle.radio.specs.Read.{readOf, gave, left}
+use Rattle.radio.specs.Export.{shown, numbered}
 use Rattle.radio.specs.Write.{writeOf, gave as wrote}
 use Rattle.wire.specs.declared.Answer.{Answer}
 use Rattle.radio.specs.declared.Reading.{Reading}
@@ -22,6 +23,11 @@ module _ (frame : List ℕ) (n : ℕ) (iq mic : List ℤ) (s : Status) where
   update-settled r r′ s₁ s₂ iq₁ iq₂ mic₁ mic₂ one other =
       let same = one ∙ sym other in
       (ap (λ o. record { answer = o .reading .answer; word = o .reading .word }) same, ap (λ o. o .reading .status) same, ap (λ o. o .iq) same, ap (λ o. o .mic) same)
+
+  pub radio-update-settled : (k k′ : ℕ) (s₁ s₂ : Status) (iq₁ iq₂ mic₁ mic₂ : List ℤ) → shown k s₁ iq₁ mic₁ ≡ numbered (readOf frame n iq mic s) → shown k′ s₂ iq₂ mic₂ ≡ numbered (readOf frame n iq mic s) → (k ≡ k′) × (s₁ ≡ s₂) × (iq₁ ≡ iq₂) × (mic₁ ≡ mic₂)
+  radio-update-settled k k′ s₁ s₂ iq₁ iq₂ mic₁ mic₂ one other =
+      let same = one ∙ sym other in
+      (ap (λ o. o .number) same, ap (λ o. o .status) same, ap (λ o. o .iq) same, ap (λ o. o .mic) same)
 
 module _ (s : Status) (w n : ℕ) (iq mic : List ℤ) (frame : List ℕ) where
   pub write-settled : (a a′ : Answer) (frame₁ frame₂ : List ℕ) → wrote a frame₁ ≡ writeOf s w n iq mic frame → wrote a′ frame₂ ≡ writeOf s w n iq mic frame → (a ≡ a′) × (frame₁ ≡ frame₂)

@@ -3,5 +3,6 @@ pub mod Words
 pub mod Carried
 pub mod Samples
 pub mod Read
+pub mod Export
 pub mod Write
 pub mod RoundTrip

@@ -6,6 +6,7 @@
 // gives every sample of the frame, says which word came, and hands back the record with that word's fields
 // in it; a write settles every byte of the frame.
 mod control;
+mod export;
 mod fill;
 pub mod record;
 pub mod samples;

@@ -3,6 +3,7 @@ ghost use mathlib.Core.Path.{_≡_};
 ghost use Rattle.radio.specs.Record.{freshStatus};
 
 // Whether each converter has been driven past its range. ADC 1 is told by words 0 and 4.
+#[repr(C)]
 pub struct Overflow {
     pub adc1: bool,
     pub adc2: bool,
@@ -11,6 +12,7 @@ pub struct Overflow {
 }
 
 // Word 0, but for the overflow. An input is active when its bit is 0.
+#[repr(C)]
 pub struct Inputs {
     pub io1: bool,
     pub io2: bool,
@@ -24,24 +26,28 @@ pub struct Inputs {
 }
 
 // Word 1: forward power.
+#[repr(C)]
 pub struct ForwardLevels {
     pub ain5: u16,
     pub ain1: u16,
 }
 
 // Word 2: reverse power, and AIN3.
+#[repr(C)]
 pub struct ReverseLevels {
     pub ain2: u16,
     pub ain3: u16,
 }
 
 // Word 3: AIN4, and AIN6, which is the supply on Hermes.
+#[repr(C)]
 pub struct SupplyLevels {
     pub ain4: u16,
     pub ain6: u16,
 }
 
 // Word 4, but for the overflows: the software versions of boards 1 to 4, 0 to 127.
+#[repr(C)]
 pub struct Versions {
     pub board1: u8,
     pub board2: u8,
@@ -49,6 +55,7 @@ pub struct Versions {
     pub board4: u8,
 }
 
+#[repr(C)]
 pub struct Status {
     pub dot: bool,
     pub dash: bool,

@@ -14,17 +14,17 @@ use lib.Dec.{T as Holds}
 use lib.ListN.{length}
 use mir.Syntax.{Sym, Ty, Body, named, w64, tyStruct, tcons, tnil, seq, assign, return, place, field, deref, rvOpd, aggregate, copy}
 use mir.Val.{Val, vint, vptr, vstruct, vcons, vnil, hasTy, WT}
-use base.Logic.{SProp, ent, sep, emp, via, fst∗, id⊢}
-use base.Fml.{Lft, Share, Fml, ftrue, flft, fobs, fbor, fobor, fauth, fat, froom, fdies}
+use base.Logic.{SProp, ent, emp, via, fst∗, id⊢}
+use base.Fml.{Lft, Share, ftrue, flft, fobs, fbor, fobor, fauth, fat, froom, fdies}
 use prog.Memory.{Memory}
 use prog.Routine.{Routine}
 use prog.Wp.{Heap, Calls, Loops, WpFn, Tables}
-use ghost.Atoms.{Atoms, sem}
+use ghost.Atoms.{Atoms}
 use contract.Lifetimes.{Lfts, Shares}
 use contract.Monad.{Fun, fact}
 use contract.Running.{givenOf, tables, tablesOf}
 use types.Kit.{Given, Sq, lands, atRet, Item, ‵, raw, _⊛_, given, mean, ⋆, some, later, _$_, _∵_, !, qed, by, move, keep, drop, use1, use2, split, split3, join, group, pick, rewrite, fsplit, fsplit3, fjoin, fjoin3, feqL, feqI, learn, show, check, updating, now as at-once, suffices, frame, await, done}
-use types.Run.{look, look-raw, init, store-raw, forget, stop, hop, fld, from, load, addr, of-opd, and-then, no-more, assigns, land, returns, enter, alloc1, alloc0, params1, pass1, pass0, free1, free0}
+use types.Run.{look, look-raw, init, store-raw, stop, hop, fld, from, load, of-opd, and-then, no-more, assigns, land, returns, enter}
 use types.Part.{agg, whole, sub, look-in}
 use types.SemTy.{Body as Within}
 use sound.WpLaws.{FmC, fmOf, WpFn-mono}
@@ -34,7 +34,7 @@ use denote.Memory.{mem, cellAt}
 use denote.Plain.{uint-vals, uint-tells}
 use denote.Builtin.{u8, usize, i16, i32}
 use denote.Ref.{RefT, MutRef, ptr-vals, mut-tells}
-use denote.Slice.{sliceVal, ShrSlice, MutSlice, Room, finally, slice-vals, shr-slice-tells, mut-slice-tells}
+use denote.Slice.{ShrSlice, MutSlice, Room, finally, slice-vals, shr-slice-tells, mut-slice-tells}
 use denote.Signature.{plain, shrSliceOf}
 use denote.Steps.{opens, closes, owned, peeks, facts, heard, nothing, only}
 use denote.Struct.Steps.{spelt}
@@ -57,7 +57,8 @@ use Rattle.radio.proofs.Reading as R
 use Rattle.radio.proofs.Reading.Laws as R′
 use Rattle.radio.proofs.Updated as U
 use Rattle.radio.proofs.Updated.Laws as U′
-use Rattle.radio.proofs.Freed.{Local, block, cells, freed}
+use Rattle.radio.proofs.Locals.{Local, block, cells, freed}
+use Rattle.radio.proofs.Begins.{passed, begins}
 use Rattle.radio.proofs.read as read
 use Rattle.radio.proofs.read.Symbol as read-def
 use Rattle.radio.proofs.read.Symbol.{name as #radio·read}
@@ -113,9 +114,6 @@ module _ {M : Type 1} (𝓤 : URA M) (H : Heap 𝓤) (A : Atoms 𝓤) (W : Given
 
   abbrev vals : Vals update.signature κs
   vals = (slice-vals f, (vint w64 n ∷ [], (slice-vals iq, (slice-vals mic, (vptr (s .ptr .0) (s .ptr .1) ∷ [], tt)))))
-
-  abbrev passed : List Val
-  passed = sliceVal (f .ptr) (length (f .now)) ∷ vint w64 n ∷ sliceVal (iq .ptr) (length (iq .now)) ∷ sliceVal (mic .ptr) (length (mic .now)) ∷ vptr (s .ptr .0) (s .ptr .1) ∷ []
 
   abbrev Post : Val → SProp 𝓤
   Post = walkOf 𝓤 H A update.ended stayed (update.clauses 𝓤 H A at-mem run) .post ((κs, qs, tt, a, vals), tt)
@@ -202,21 +200,13 @@ module _ {M : Type 1} (𝓤 : URA M) (H : Heap 𝓤) (A : Atoms 𝓤) (W : Given
       returns ! (look ! 6 refl) $ move ! (6 ∷ 7 ∷ 8 ∷ 9 ∷ 10 ∷ 11 ∷ 12 ∷ 13 ∷ 14 ∷ 15 ∷ 16 ∷ 17 ∷ 18 ∷ 19 ∷ 20 ∷ 21 ∷ 22 ∷ 23 ∷ 24 ∷ 25 ∷ 26 ∷ 27 ∷ 28 ∷ 29 ∷ []) $ freed (_ ∷ _ ∷ _ ∷ _ ∷ _ ∷ _ ∷ _ ∷ _ ∷ _ ∷ _ ∷ _ ∷ _ ∷ []) (group ! 3 $ move ! (1 ∷ 0 ∷ []) $ by ! out)
 
   module _ (C : Calls 𝓤 H) (Λ : Loops 𝓤 H) (fm : FmC 𝓤 H (W .laws) C) (known : Triple 𝓤 (C #radio·read) (Read 𝓤 H A at-mem run)) where
-    walk : Room u8 (length (f .now)) → n < 2 ^ 64 → Room i32 (length (iq .now)) → Room i16 (length (mic .now)) → ent 𝓤 (onEntry 𝓤 H A update.signature κs qs a vals) (WpFn 𝓤 H C Λ code.function passed Post)
+    walk : Room u8 (length (f .now)) → n < 2 ^ 64 → Room i32 (length (iq .now)) → Room i16 (length (mic .now)) → ent 𝓤 (onEntry 𝓤 H A update.signature κs qs a vals) (WpFn 𝓤 H C Λ code.function (passed f n iq mic s) Post)
     walk f-room n-fits iq-room mic-room =
-        qed W (raw (onEntry 𝓤 H A update.signature κs qs a vals) ∷ []) ∵ enter ! C Λ code.function passed _ $
-        alloc1 ! (λ l₀. alloc1 ! (λ l₁. alloc1 ! (λ l₂. alloc1 ! (λ l₃. alloc1 ! (λ l₄. alloc1 ! (λ l₅. alloc1 ! (λ l₆. alloc1 ! (λ l₇. alloc1 ! (λ l₈. alloc1 ! (λ l₉. alloc1 ! (λ l₁₀. alloc1 ! (λ l₁₁. alloc0 ! $ params1 ! $
-        pass1 ! (init ! 20 refl (tt, (tt, (record { fits = f-room .0 }, tt)))) $ pass1 ! (init ! 18 refl (tt, record { fits = n-fits })) $ pass1 ! (init ! 16 refl (tt, (tt, (record { fits = iq-room .0 }, tt)))) $ pass1 ! (init ! 14 refl (tt, (tt, (record { fits = mic-room .0 }, tt)))) $ pass1 ! (init ! 12 refl (tt, tt)) $ pass0 ! $
-        move ! (24 ∷ 22 ∷ 23 ∷ 20 ∷ 21 ∷ 18 ∷ 19 ∷ 16 ∷ 17 ∷ 14 ∷ 15 ∷ 12 ∷ 13 ∷ 10 ∷ 11 ∷ 8 ∷ 9 ∷ 6 ∷ 7 ∷ 4 ∷ 5 ∷ 2 ∷ 3 ∷ 0 ∷ 1 ∷ []) $
-        -- [what is had at entry; room for _0; …; _1; …]
+        qed W (raw (onEntry 𝓤 H A update.signature κs qs a vals) ∷ []) ∵ enter ! C Λ code.function (passed f n iq mic s) _ $ begins f n iq mic s f-room n-fits iq-room mic-room (λ l₀ l₁ l₂ l₃ l₄ l₅ l₆ l₇ l₈ l₉ l₁₀ l₁₁.
         use1 W (borrowed (s .now) ⊛ lent) apart $ split ! $ split3 ! $
         opens ! tt S.the-row {h = s .now} (s .ptr .0) (s .ptr .1) (λ vs. spelt ! S.the-row (Is S.the-row) (shows 𝓤 H A S.the-row) (LL.vals S.the-type S′.the-laws) (LL.tells S.the-type S′.the-laws) fullShare (s .now) vs (s .ptr .0) (s .ptr .1) $
         move ! (1 ∷ []) $ peeks ! S.the-row (Is S.the-row) (shows 𝓤 H A S.the-row) (s .now) (LL.vals S.the-type S′.the-laws (s .now)) (λ before-is. move ! (5 ∷ 0 ∷ []) $
         -- [what is lent; what the record owns; its cell; the open borrow; obs; auth; _0; …]
-        assigns ! (addr ! (from ! (fld ! refl (hop ! (look-in ! 12 (sub ! 0 refl (whole !))) (stop !))))) (from ! (stop !)) (init ! 20 refl (tt, tt)) $
-        assigns ! (agg ! (and-then ! (load ! (from ! (stop !)) (look ! 20 refl)) (and-then ! (load ! (from ! (fld ! refl (stop !))) (look-in ! 12 (sub ! 1 refl (whole !)))) (no-more !)))) (from ! (stop !)) (init ! 22 refl (tt, (tt, (record { fits = iq-room .0 }, tt)))) $
-        assigns ! (addr ! (from ! (fld ! refl (hop ! (look-in ! 14 (sub ! 0 refl (whole !))) (stop !))))) (from ! (stop !)) (init ! 24 refl (tt, tt)) $
-        assigns ! (agg ! (and-then ! (load ! (from ! (stop !)) (look ! 24 refl)) (and-then ! (load ! (from ! (fld ! refl (stop !))) (look-in ! 14 (sub ! 1 refl (whole !)))) (no-more !)))) (from ! (stop !)) (init ! 26 refl (tt, (tt, (record { fits = mic-room .0 }, tt)))) $
         assigns ! (of-opd ! (load ! (from ! (hop ! (look ! 16 refl) (stop !))) (look-raw ! 2 refl))) (from ! (stop !)) (init ! 28 refl (LL.lawful S.the-type S′.the-laws 𝓤 H A W .typed (s .now) _ before-is .0)) $
         use2 W (raw (Read 𝓤 H A at-mem run .pre to-read)) asked $
         -- [what `read` asks; the record's cell; the open borrow; obs; auth; _0; …]
@@ -224,7 +214,7 @@ module _ {M : Type 1} (𝓤 : URA M) (H : Heap 𝓤) (A : Atoms 𝓤) (W : Given
         use1 W (later (some (back w))) (told w) $ await ! tt $ pick ! (λ x. learn ! (λ is. split3 ! $
         ends (status-is (x .0) (w ∷ []) (is .0)) (ap only (LL.tells R.the-type R′.the-laws (x .0) (w ∷ []) (is .0)))
         (LL.lawful R.the-type R′.the-laws 𝓤 H A W .typed (x .0) _ (is .0) .0) (LL.lawful U.the-type U′.the-laws 𝓤 H A W .typed (handed (x .0)) _ (handed-is (x .0) (w ∷ []) (is .0)) .0)
-        (exits (x .0) (x .1 .0) (x .1 .1) (handed-is (x .0) (w ∷ []) (is .0)) (is .1) (is .2) (is .3)))))))))))))))))))
+        (exits (x .0) (x .1 .0) (x .1 .1) (handed-is (x .0) (w ∷ []) (is .0)) (is .1) (is .2) (is .3))))))))
 
 module _ {M : Type 1} (𝓤 : URA M) (H : Heap 𝓤) (A : Atoms 𝓤) (W : Given 𝓤 H A) (at-mem : Memory → SProp 𝓤) (run : Routine → Fun 𝓤) where
   update-walks : (C : Calls 𝓤 H) (Λ : Loops 𝓤 H) → FmC 𝓤 H (W .laws) C → Triple 𝓤 (C #radio·read) (Read 𝓤 H A at-mem run) → Walks 𝓤 H A update.ended stayed (WpFn 𝓤 H C Λ code.function) (update.clauses 𝓤 H A at-mem run)

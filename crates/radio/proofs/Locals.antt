@@ -1,4 +1,4 @@
--- In a walk by hand: the locals of a function that returns, freed one after another, whatever they hold.
+-- In a walk by hand: where the locals of a function stand, and that they are freed one after another, whatever they hold.
 -- Assumes nothing.
 use mathlib.Core.Path.{refl}
 use Prim.Native.Nat.{ℕ}

@@ -1,0 +1,20 @@
+-- An update as C and Rust see it: what it leaves, with the answer as its number. Assumes nothing.
+use Prim.Native.Nat.{ℕ}
+use mathlib.Core.List.{List}
+use lib.IntN.{ℤ}
+use Rattle.wire.specs.Answers.{numberOf}
+use Rattle.radio.specs.Read.{Outcome}
+use Rattle.radio.specs.declared.record.Status.{Status}
+
+-- the number, and the lent record and slices at exit
+pub record Shown : Type 0 where
+  pub number : ℕ
+  pub status : Status
+  pub iq : List ℤ
+  pub mic : List ℤ
+
+abbrev pub shown : ℕ → Status → List ℤ → List ℤ → Shown
+shown k s iq mic = record { number = k; status = s; iq = iq; mic = mic }
+
+abbrev pub numbered : Outcome → Shown
+numbered o = shown (numberOf (o .reading .answer)) (o .reading .status) (o .iq) (o .mic)

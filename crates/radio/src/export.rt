@@ -1,0 +1,29 @@
+// `update` as C and Rust call it, under a plain name. The record and the structs in it are `#[repr(C)]`, so
+// that a caller declares them again.
+use crate::Updated;
+use crate::record::Status;
+ghost use mathlib.Core.Path.{_≡_};
+ghost use Rattle.wire.specs.Answers.{numberOf};
+ghost use Rattle.radio.specs.Read.{readOf};
+ghost use Rattle.radio.specs.Export.{numbered, shown};
+
+// An update that answers by number, 0 to 9.
+#[no_mangle]
+pub extern "C" fn radio_update(
+    frame: &[u8],
+    receivers: usize,
+    iq: &mut [i32],
+    mic: &mut [i16],
+    status: &mut Status,
+) -> u8
+    ensures { λ r. ⌜ shown r (now (status .exit)) (now (iq .exit)) (now (mic .exit)) ≡ numbered (readOf (now (frame .entry)) receivers (now (iq .entry)) (now (mic .entry)) (now (status .entry))) ⌝ }
+{
+    number_of(crate::update(frame, receivers, iq, mic, status))
+}
+
+pub(crate) fn number_of(updated: Updated) -> u8
+    ensures { λ r. ⌜ r ≡ numberOf (updated .answer) ⌝ }
+{
+    let answer = updated.answer;
+    wire::number(answer)
+}

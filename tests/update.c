@@ -1,0 +1,169 @@
+// The update of a lent status record, called from C: the record's layout is declared here again, and accepted and
+// refused frames are given to the proved function. It prints a line for each case that fails, and at its end
+// how many passed; its exit status is 0 if all did.
+//
+// tests/update.sh builds and runs it. The archive is for x86-64, and so are the types below: no header is
+// included, so that a compiler for another machine can make it too.
+typedef _Bool bool;
+enum { false, true };
+typedef unsigned char uint8_t;
+typedef unsigned short uint16_t;
+typedef short int16_t;
+typedef int int32_t;
+typedef unsigned long size_t;
+#define offsetof(type, member) __builtin_offsetof(type, member)
+
+int printf(const char *format, ...);
+int memcmp(const void *a, const void *b, size_t n);
+void *memset(void *p, int c, size_t n);
+void *memcpy(void *to, const void *from, size_t n);
+
+struct overflow { bool adc1, adc2, adc3, adc4; };
+struct inputs { bool io1, io2, io3, io4, pll, toggle; uint8_t mercury, penelope, main; };
+struct forward { uint16_t ain5, ain1; };
+struct reverse { uint16_t ain2, ain3; };
+struct supply { uint16_t ain4, ain6; };
+struct versions { uint8_t board1, board2, board3, board4; };
+
+struct status {
+    bool dot, dash, ptt;
+    struct overflow overflow;
+    struct inputs inputs;
+    struct forward forward;
+    struct reverse reverse;
+    struct supply supply;
+    struct versions versions;
+};
+
+// A slice is its pointer and its count.
+uint8_t radio_update(const uint8_t *frame, size_t frame_len, size_t receivers, int32_t *iq, size_t iq_len,
+                     int16_t *mic, size_t mic_len, struct status *status);
+
+enum { ROOM = 300 };
+
+static uint8_t frame[513];
+static int32_t iq[ROOM], iq_before[ROOM];
+static int16_t mic[ROOM], mic_before[ROOM];
+static struct status status, before;
+static int passed, failed;
+
+static void check(const char *what, bool holds)
+{
+    if (holds)
+        passed++;
+    else {
+        failed++;
+        printf("failed: %s\n", what);
+    }
+}
+
+// A frame of zeros that carries these five bytes; slices and a record that hold nothing that a frame gives.
+static void fresh(uint8_t c0, uint8_t c1, uint8_t c2, uint8_t c3, uint8_t c4)
+{
+    memset(frame, 0, sizeof frame);
+    memset(frame, 0x7f, 3);
+    frame[3] = c0;
+    frame[4] = c1;
+    frame[5] = c2;
+    frame[6] = c3;
+    frame[7] = c4;
+    for (size_t k = 0; k < ROOM; k++) {
+        iq[k] = 1000000 + (int32_t)k;
+        mic[k] = (int16_t)(1000 + k);
+    }
+    memset(&status, 0, sizeof status);
+    status.ptt = true;
+    status.overflow.adc3 = true;
+    status.inputs.main = 9;
+    status.reverse.ain3 = 333;
+    status.versions.board2 = 22;
+    memcpy(iq_before, iq, sizeof iq);
+    memcpy(mic_before, mic, sizeof mic);
+    before = status;
+}
+
+static bool same_slices(size_t iq_from, size_t mic_from)
+{
+    return memcmp(iq + iq_from, iq_before + iq_from, (ROOM - iq_from) * sizeof iq[0]) == 0
+        && memcmp(mic + mic_from, mic_before + mic_from, (ROOM - mic_from) * sizeof mic[0]) == 0;
+}
+
+static bool same_record(void)
+{
+    return memcmp(&status, &before, sizeof status) == 0;
+}
+
+// Refused: the number, and the record and both slices as they were.
+static void refused(const char *what, uint8_t number, size_t frame_len, size_t receivers, size_t iq_len, size_t mic_len)
+{
+    uint8_t answer = radio_update(frame, frame_len, receivers, iq, iq_len, mic, mic_len, &status);
+    check(what, answer == number && same_record() && same_slices(0, 0));
+}
+
+// The layouts of one to eight receivers: slots, and padding.
+static const size_t slots[9] = { 0, 63, 36, 25, 19, 15, 13, 11, 10 };
+static const size_t padding[9] = { 0, 0, 0, 4, 10, 24, 10, 20, 4 };
+
+int main(void)
+{
+    check("the record takes 32 bytes", sizeof(struct status) == 32 && offsetof(struct status, versions) == 28);
+
+    // C0 0C is word 1 with DOT on; C1C2 01 F4 is AIN5 at 500
+    fresh(0x0c, 0x01, 0xf4, 0x00, 0x07);
+    before.dot = true;
+    before.ptt = false;
+    before.forward.ain5 = 500;
+    before.forward.ain1 = 7;
+    check("word 1 is accepted", radio_update(frame, 512, 1, iq, ROOM, mic, ROOM, &status) == 0);
+    check("word 1 sets its fields and no others", same_record());
+    check("63 slots of zeros, and the rest kept", iq[0] == 0 && iq[125] == 0 && mic[0] == 0 && mic[62] == 0 && same_slices(126, 63));
+
+    // word 0: an input is active when its bit is 0
+    fresh(0x03, 0x23, 0x11, 0x12, 0x13);
+    before.dash = true;
+    before.overflow.adc1 = true;
+    before.inputs = (struct inputs){ false, true, true, true, true, false, 0x11, 0x12, 0x13 };
+    check("word 0 is accepted", radio_update(frame, 512, 1, iq, ROOM, mic, ROOM, &status) == 0);
+    check("word 0 sets its fields and no others", same_record());
+
+    // an unlisted word sets DOT, DASH and PTT alone
+    fresh(0xfc, 0xff, 0xff, 0xff, 0xff);
+    before.dot = true;
+    before.ptt = false;
+    check("an unlisted word is accepted", radio_update(frame, 512, 1, iq, ROOM, mic, ROOM, &status) == 0);
+    check("an unlisted word sets three flags and no other field", same_record());
+
+    // the last slot of each layout: its last receiver's I and Q, and its microphone value
+    for (size_t n = 1; n <= 8; n++) {
+        fresh(0x0c, 0, 0, 0, 0);
+        size_t at = 8 + (slots[n] - 1) * (6 * n + 2) + 6 * (n - 1);
+        const uint8_t bytes[8] = { 0x7f, 0xff, 0xff, 0x80, 0x00, 0x00, 0x80, 0x00 };
+        memcpy(frame + at, bytes, 8);
+        size_t values = 2 * n * slots[n];
+        check("a layout is accepted in slices just long enough", radio_update(frame, 512, n, iq, values, mic, slots[n], &status) == 0);
+        check("the last samples of a layout", iq[values - 2] == 8388607 && iq[values - 1] == -8388608 && mic[slots[n] - 1] == -32768);
+        check("a layout leaves the rest", same_slices(values, slots[n]));
+        fresh(0x0c, 0, 0, 0, 0);
+        refused("one I/Q value too few is SHORT_BUFFER", 4, 512, n, values - 1, slots[n]);
+        refused("one microphone value too few is SHORT_BUFFER", 4, 512, n, values, slots[n] - 1);
+        if (padding[n] != 0) {
+            frame[512 - padding[n]] = 1;
+            refused("a padding byte is PADDING", 7, 512, n, ROOM, ROOM);
+        }
+    }
+
+    fresh(0x0c, 0x01, 0xf4, 0x00, 0x07);
+    refused("no receiver is BAD_COUNT", 2, 512, 0, ROOM, ROOM);
+    refused("nine receivers are BAD_COUNT", 2, 512, 9, ROOM, ROOM);
+    refused("511 bytes are LENGTH", 3, 511, 1, ROOM, ROOM);
+    refused("513 bytes are LENGTH", 3, 513, 1, ROOM, ROOM);
+    refused("BAD_COUNT comes before LENGTH", 2, 511, 9, ROOM, ROOM);
+    refused("LENGTH comes before SHORT_BUFFER", 3, 511, 1, 0, 0);
+    frame[2] = 0x7e;
+    refused("two bytes of sync are NO_SYNC", 6, 512, 1, ROOM, ROOM);
+    frame[511] = 1;
+    refused("NO_SYNC comes before PADDING", 6, 512, 3, ROOM, ROOM);
+
+    printf("update from C: %d passed, %d failed\n", passed, failed);
+    return failed != 0;
+}
