@@ -3,6 +3,7 @@
 # another machine compiles, links and runs with the toolchain's own compiler, C library and emulator.
 set -eu
 cd "$(dirname "$0")/.."
+mkdir -p target
 rt staticlib radio >target/update.log 2>&1 || { cat target/update.log >&2; exit 1; }
 archive=target/staticlib/libradio.a
 machine=$(uname -m)
