@@ -6,23 +6,12 @@ use native.Mathlib.Nat.{le-trans, mul-le-mul-right, suc-mul, add-sub-cancel-left
 use native.Mathlib.Numerals.{add-one}
 use native.Mathlib.Omega.{arith}
 use borrow.Rule.Slice.PartMut.{putMid, midOf, mid-len}
-use lib.ListN.{length, drop, length-append, length-drop, drop-of-length-le}
-use lib.Seq.{sets, sets-eq, drop-length, take-at, drop-at, drop-drop}
+use lib.ListN.{length, drop, length-append, length-drop}
+use lib.Seq.{drop-length, take-at, drop-at, drop-drop}
 use Rattle.wire.proofs.Lists.{length-tabs}
 use Rattle.wire.specs.Lists.{tabs}
 
 module _ {A : Type 0} where
-  -- stores from the start on
-  pub stored-start : (vs l : List A) → length vs ≤ length l → sets l 0 vs ≡ vs ++ drop (0 + length vs) l
-  stored-start vs l fits = sets-eq vs l 0 (omega arith)
-
-  -- a list whose every element is stored is what was stored
-  pub stored-whole : (vs l : List A) → length l ≡ length vs → sets l 0 vs ≡ vs
-  stored-whole vs l long =
-      stored-start vs l (omega arith)
-      ∙ ap (λ r. vs ++ r) (drop-of-length-le l {i = 0 + length vs} (omega arith))
-      ∙ append-nil vs
-
   -- all that follows a head, lent and replaced
   pub put-rest : (n : ℕ) (head rest ys : List A) → length head ≡ n → putMid n (length (head ++ rest) - n) (head ++ rest) ys ≡ head ++ ys
   put-rest n head rest ys long =

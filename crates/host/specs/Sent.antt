@@ -6,6 +6,7 @@ use lib.Dec.{eqb}
 use lib.ListN.{getD}
 use Rattle.wire.specs.Fields.{flag, pack, eightFlags}
 use Rattle.wire.specs.Numbers.{bytesOf}
+use Rattle.wire.specs.Sync.{headerOf}
 use Rattle.host.specs.Choices.{speedCode, source10Code, source122Code, boardsCode, microphoneCode, attenuatorCode, antennaCode, relayCode}
 use Rattle.host.specs.Words.{tunes}
 use Rattle.host.specs.declared.record.Host.{Host}
@@ -64,7 +65,7 @@ said turn h =
 
 -- sync, and C0 to C4
 abbrev pub headOf : ℕ → Host → List ℕ
-headOf turn h = 0x7f ∷ 0x7f ∷ 0x7f ∷ c0Of turn (h .mox) ∷ said turn h
+headOf turn h = headerOf (c0Of turn (h .mox)) (said turn h)
 
 -- "RANGE: ... the collector outputs above 127; the host record's receivers not 1 to 8"
 pub record InRange (h : Host) : Type 0 where

@@ -8,22 +8,15 @@ use crate::record::Host;
 use wire::fields::eight_flags;
 use wire::fields::flag_of;
 use wire::numbers::bytes_of_u32;
+use wire::sync::put_header;
 
 // Sync and C0 to C4 over the start of a frame.
 pub(crate) fn put_head(frame: &mut [u8], turn: u8, host: Host)
     requires { ⌜ (8 ≤ length (now frame)) × (turn ≤ 9) × InRange host ⌝ }
     ensures { λ r. ⌜ now (frame .exit) ≡ headOf turn host ++ drop 8 (now (frame .entry)) ⌝ }
 {
-    let bytes = word_of(turn, host);
     let c0 = flag_of(host.mox) + turn * 2;
-    frame[0] = 0x7f;
-    frame[1] = 0x7f;
-    frame[2] = 0x7f;
-    frame[3] = c0;
-    frame[4] = bytes[0];
-    frame[5] = bytes[1];
-    frame[6] = bytes[2];
-    frame[7] = bytes[3];
+    put_header(frame, c0, word_of(turn, host));
 }
 
 // C1 to C4 of the word that is due.

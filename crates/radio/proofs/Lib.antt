@@ -1,6 +1,5 @@
 -- What is proved of frames from the radio, beside each function's own contract.
 pub mod SlotBySlot
-pub mod Stores
 pub mod SlotsLaid
 pub mod FrameLaid
 pub mod Cases

@@ -10,6 +10,7 @@ use Rattle.wire.specs.Every.{allFit}
 use Rattle.wire.specs.Fields.{flag, pack, eightFlags}
 use Rattle.wire.specs.Lists.{tabs}
 use Rattle.wire.specs.Numbers.{bytesOf, unsigned}
+use Rattle.wire.specs.Sync.{headerOf}
 use Rattle.wire.specs.declared.Answer.{Answer}
 use Rattle.wire.specs.declared.Answer.the-variants.{BadCount, Length, ShortBuffer, Range}
 use Rattle.layout.specs.Slots.{counted, slots, padding, values}
@@ -51,7 +52,7 @@ wordBytes s w =
 
 -- "7F 7F 7F, then C0 to C4"
 abbrev pub header : Status → ℕ → List ℕ
-header s w = 0x7f ∷ 0x7f ∷ 0x7f ∷ keyByte s w ∷ wordBytes s w
+header s w = headerOf (keyByte s w) (wordBytes s w)
 
 -- "I then Q (3 bytes each) for receiver 1 to n, then 2 microphone bytes"
 abbrev pub iqBytes : List ℤ → ℕ → List ℕ

@@ -6,6 +6,7 @@ use crate::record::Versions;
 use wire::fields::eight_flags;
 use wire::fields::flag_of;
 use wire::numbers::bytes_of_u16;
+use wire::sync::put_header;
 ghost use mathlib.Core.Path.{_≡_};
 ghost use Prim.Native.Nat.{_≤_};
 ghost use lib.ListN.{length};
@@ -18,15 +19,7 @@ pub(crate) fn write_header(status: Status, word: u8, frame: &mut [u8])
     ensures { λ r. ⌜ now (frame .exit) ≡ sets (now (frame .entry)) 0 (header status word) ⌝ }
 {
     let c0 = key_byte(status, word);
-    let c = word_bytes(status, word);
-    frame[0] = 0x7f;
-    frame[1] = 0x7f;
-    frame[2] = 0x7f;
-    frame[3] = c0;
-    frame[4] = c[0];
-    frame[5] = c[1];
-    frame[6] = c[2];
-    frame[7] = c[3];
+    put_header(frame, c0, word_bytes(status, word));
 }
 
 pub(crate) fn key_byte(status: Status, word: u8) -> u8

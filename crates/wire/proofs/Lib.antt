@@ -6,6 +6,7 @@ pub mod Machine
 pub mod Bytes
 pub mod Pack
 pub mod SyncCases
+pub mod Header
 pub mod Counted
 pub mod Lists
 pub mod Fill

@@ -1,6 +1,7 @@
-// The three bytes 7F that a frame begins with.
+// The three bytes 7F that a frame begins with, and the header that they open.
+use crate::numbers::Bytes4;
 ghost use mathlib.Core.Path.{_≡_};
-ghost use Rattle.wire.specs.Sync.{syncAt};
+ghost use Rattle.wire.specs.Sync.{syncAt, headed};
 
 // Whether sync stands at a place of s; past its end there is none.
 pub fn sync_at(s: &[u8], at: usize) -> bool
@@ -19,4 +20,22 @@ pub fn sync_at(s: &[u8], at: usize) -> bool
         return false;
     }
     s[at + 2] == 0x7f
+}
+
+// Sync and the control bytes, C0 and then C1 to C4, over the start of a frame. One with no room for
+// them is left as it is.
+pub fn put_header(frame: &mut [u8], c0: u8, word: Bytes4)
+    ensures { λ r. ⌜ now (frame .exit) ≡ headed c0 word (now (frame .entry)) ⌝ }
+{
+    if frame.len() < 8 {
+        return;
+    }
+    frame[0] = 0x7f;
+    frame[1] = 0x7f;
+    frame[2] = 0x7f;
+    frame[3] = c0;
+    frame[4] = word[0];
+    frame[5] = word[1];
+    frame[6] = word[2];
+    frame[7] = word[3];
 }

@@ -1,9 +1,9 @@
 -- `samples::read_slot` meets its contract: four stores fill the slice. Assumes nothing.
-use mathlib.Core.Path.{_∙_}
+use mathlib.Core.Path.{sym, _∙_}
 use mathlib.Core.List.{[], _∷_}
 use borrow.Author.Needs.{needs}
 use denote.Ref.{now}
-use Rattle.host.proofs.Filling.{stored-whole}
+use Rattle.wire.proofs.Lists.{sets-all}
 use Rattle.host.proofs.Slots.{held}
 use Rattle.host.proofs.samples.read_slot.Statement.{statement}
 use Rattle.host.proofs.samples.read_slot.Tie as tie
@@ -18,7 +18,7 @@ returns c =
     let r = held _ (second .sample162 .ok) ∙ second .sample162 .ensures in
     let i = held _ (third .sample163 .ok) ∙ third .sample163 .ensures in
     let q = held _ (c .sample164 .ok) ∙ c .sample164 .ensures in
-    rw (l, r, i, q) (stored-whole (_ ∷ _ ∷ _ ∷ _ ∷ []) (now (given .args .out)) (given .pre .1))
+    rw (l, r, i, q) (sets-all (now (given .args .out)) (_ ∷ _ ∷ _ ∷ _ ∷ []) (sym (given .pre .1)))
 
 pub read-slot-spec : {M : Type 1} → statement M
 read-slot-spec =

@@ -1,11 +1,11 @@
 -- `samples::write_slot` meets its contract: eight stores fill the slot. Assumes nothing.
-use mathlib.Core.Path.{ap, _∙_}
+use mathlib.Core.Path.{sym, ap, _∙_}
 use native.Mathlib.Omega.{arith}
 use borrow.Author.Needs.{needs}
 use denote.Ref.{now}
 use lib.ListN.{length-set}
 use mir.Facts.{toZ-ofZ}
-use Rattle.host.proofs.Filling.{stored-whole}
+use Rattle.wire.proofs.Lists.{sets-all}
 use Rattle.host.specs.Samples.{pairBytes, slotBytes}
 use Rattle.host.proofs.samples.write_slot.Statement.{statement}
 use Rattle.host.proofs.samples.write_slot.Tie as tie
@@ -19,7 +19,7 @@ returns c =
     let r = c .before .before .bytes-of-sample162 .ensures ∙ ap pairBytes (toZ-ofZ (given .fits .r)) in
     let i = c .before .bytes-of-sample163 .ensures ∙ ap pairBytes (toZ-ofZ (given .fits .i)) in
     let q = c .bytes-of-sample164 .ensures ∙ ap pairBytes (toZ-ofZ (given .fits .q)) in
-    rw (l, r, i, q) (stored-whole (slotBytes (args .l) (args .r) (args .i) (args .q)) (now (args .slot)) (given .pre))
+    rw (l, r, i, q) (sets-all (now (args .slot)) (slotBytes (args .l) (args .r) (args .i) (args .q)) (sym (given .pre)))
 
 pub write-slot-spec : {M : Type 1} → statement M
 write-slot-spec =

@@ -1,9 +1,12 @@
--- `control::write_header` meets its contract: eight stores. Assumes nothing.
-use mathlib.Core.Path.{_≡_}
-use lib.ListN.{length, length-set}
-use Rattle.radio.proofs.Stores.{four-stores}
-use native.Mathlib.Omega.{arith}
+-- `control::write_header` meets its contract: the header of its word. Assumes nothing.
+use mathlib.Core.Path.{_≡_, ap₂, _∙_}
+use Prim.Native.Nat.{_≤_}
 use borrow.Author.Needs.{needs}
+use denote.Ref.{now}
+use lib.ListN.{length}
+use lib.Seq.{sets}
+use Rattle.wire.proofs.Header.{with-room}
+use Rattle.wire.specs.Sync.{headerOf}
 use Rattle.radio.proofs.control.write_header.Statement.{statement}
 use Rattle.radio.proofs.control.write_header.Tie as tie
 
@@ -13,67 +16,22 @@ key-byte-requires c κs = search needs
 word-bytes-requires : tie.Need-word-bytes-requires
 word-bytes-requires c κs = search needs
 
-slice-write-frame : tie.Need-slice-write-frame
-slice-write-frame c = search needs
-
-slice-write-frame-2 : tie.Need-slice-write-frame-2
-slice-write-frame-2 c = simp length-set (omega arith)
-
-slice-write-frame-3 : tie.Need-slice-write-frame-3
-slice-write-frame-3 c = simp length-set (omega arith)
-
-slice-write-frame-4 : tie.Need-slice-write-frame-4
-slice-write-frame-4 c = simp length-set (omega arith)
-
-array-read-frame : tie.Need-array-read-frame
-array-read-frame c = search needs
-
-slice-write-frame-5 : tie.Need-slice-write-frame-5
-slice-write-frame-5 c = simp length-set (omega arith)
-
-array-read-frame-2 : tie.Need-array-read-frame-2
-array-read-frame-2 c = search needs
-
-slice-write-frame-6 : tie.Need-slice-write-frame-6
-slice-write-frame-6 c = simp length-set (omega arith)
-
-array-read-frame-3 : tie.Need-array-read-frame-3
-array-read-frame-3 c = search needs
-
-slice-write-frame-7 : tie.Need-slice-write-frame-7
-slice-write-frame-7 c = simp length-set (omega arith)
-
-array-read-frame-4 : tie.Need-array-read-frame-4
-array-read-frame-4 c = search needs
-
-slice-write-frame-8 : tie.Need-slice-write-frame-8
-slice-write-frame-8 c = simp length-set (omega arith)
+put-header-requires : tie.Need-put-header-requires
+put-header-requires c κs = search needs
 
 same-length : tie.Need-same-length
-same-length c = simp length-set
+same-length c = search needs
 
 returns : tie.Need-returns
 returns c =
-    let four : length (c .word-bytes .result) ≡ 4 = search needs in
-    rw (c .before .key-byte .ensures, ← c .word-bytes .ensures) (four-stores _ 4 (c .word-bytes .result) four)
+    let call = c .before .before in
+    let word = call .before .word-bytes in
+    let key = call .before .before .before .key-byte in
+    let frame = now (call .before .before .before .before .before .args .frame) in
+    let room : 8 ≤ length frame = search needs in
+    call .put-header .ensures
+    ∙ with-room (key .result) (word .result) frame room
+    ∙ ap₂ (λ c0 bytes. sets frame 0 (headerOf c0 bytes)) (key .ensures) (word .ensures)
 
 pub write-header-spec : {M : Type 1} → statement M
-write-header-spec =
-    tie.close
-    (tie.spec
-    key-byte-requires
-    word-bytes-requires
-    slice-write-frame
-    slice-write-frame-2
-    slice-write-frame-3
-    slice-write-frame-4
-    array-read-frame
-    slice-write-frame-5
-    array-read-frame-2
-    slice-write-frame-6
-    array-read-frame-3
-    slice-write-frame-7
-    array-read-frame-4
-    slice-write-frame-8
-    same-length
-    returns)
+write-header-spec = tie.close (tie.spec key-byte-requires word-bytes-requires put-header-requires same-length returns)
