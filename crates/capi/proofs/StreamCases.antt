@@ -1,0 +1,43 @@
+-- The stream's calls through the door, in their cases. Assumes nothing.
+use mathlib.Core.Path.{_≡_, ap, _∙_}
+use mathlib.Core.Bool.{Bool, cond, true, false}
+use mathlib.Core.List.{List}
+use Prim.Native.Nat.{ℕ, _≤_}
+use borrow.Author.Tests.{leb-true}
+use lib.Dec.{leb}
+use lib.ListN.{length}
+use lib.Seq.{sets}
+use Rattle.wire.proofs.Cases.{both-true}
+use Rattle.stream.specs.Feed.{feedOf}
+use Rattle.stream.specs.Record.{freshOf, soundOf}
+use Rattle.capi.specs.Cells.{badState}
+use Rattle.capi.specs.Stream.{lent, streamOf, countsOf, left, freshIn, soundIn, gave, shown, feedIn}
+
+module _ (counts held : List ℕ) where
+  pub enough : lent counts held ≡ true → (4 ≤ length counts) × (514 ≤ length held)
+  enough fits = let both = both-true (leb 4 (length counts)) (leb 514 (length held)) fits in (leb-true 4 (length counts) (both .0), leb-true 514 (length held) (both .1))
+
+  pub fresh-bad : lent counts held ≡ false → freshIn counts held ≡ left badState counts held
+  unfolding freshIn
+  fresh-bad bad = ap (λ b. cond b (left 0 (sets counts 0 (countsOf freshOf)) (sets held 0 (freshOf .held))) (left badState counts held)) bad
+
+  pub fresh-good : lent counts held ≡ true → freshIn counts held ≡ left 0 (sets counts 0 (countsOf freshOf)) (sets held 0 (freshOf .held))
+  unfolding freshIn
+  fresh-good good = ap (λ b. cond b (left 0 (sets counts 0 (countsOf freshOf)) (sets held 0 (freshOf .held))) (left badState counts held)) good
+
+  pub sound-bad : lent counts held ≡ false → soundIn counts held ≡ badState
+  unfolding soundIn
+  sound-bad bad = ap (λ b. cond b (cond (soundOf (streamOf counts held)) 0 badState) badState) bad
+
+  pub sound-good : lent counts held ≡ true → (sound : Bool) → soundOf (streamOf counts held) ≡ sound → soundIn counts held ≡ cond sound 0 badState
+  unfolding soundIn
+  sound-good good sound is = ap (λ b. cond b (cond (soundOf (streamOf counts held)) 0 badState) badState) good ∙ ap (λ b. cond b 0 badState) is
+
+  module _ (piece output : List ℕ) where
+    pub feed-bad : lent counts held ≡ false → feedIn counts held piece output ≡ gave badState counts held output
+    unfolding feedIn
+    feed-bad bad = ap (λ b. cond b (shown counts held (feedOf (streamOf counts held) piece output)) (gave badState counts held output)) bad
+
+    pub feed-good : lent counts held ≡ true → feedIn counts held piece output ≡ shown counts held (feedOf (streamOf counts held) piece output)
+    unfolding feedIn
+    feed-good good = ap (λ b. cond b (shown counts held (feedOf (streamOf counts held) piece output)) (gave badState counts held output)) good

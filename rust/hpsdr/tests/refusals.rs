@@ -1,0 +1,267 @@
+//! Each refusal of each call, and that it leaves everything as it was.
+
+mod common;
+
+use common::frame;
+use hpsdr::{layout, Builder, Host, Refusal, Status, Stream, Word, AUDIO};
+use std::error::Error;
+
+fn refused_read(frame: &[u8], receivers: u8, iq: usize, mic: usize, refusal: Refusal) {
+    let given = Status {
+        board3: 200,
+        ..Status::fresh()
+    };
+    let (mut status, mut iq, mut mic) = (given, vec![7; iq], vec![8; mic]);
+    let got = status.read(frame, receivers, &mut iq, &mut mic);
+    assert_eq!(got, Err(refusal));
+    assert_eq!(status, given);
+    assert!(iq.iter().all(|&value| value == 7));
+    assert!(mic.iter().all(|&value| value == 8));
+}
+
+#[test]
+fn radio_read() {
+    let good = frame([0x0F, 1, 2, 3, 4]);
+    let mut unsynced = good;
+    unsynced[2] = 0x7E;
+    refused_read(&good, 0, 160, 63, Refusal::BadCount);
+    refused_read(&good, 9, 160, 63, Refusal::BadCount);
+    refused_read(&good, 255, 160, 63, Refusal::BadCount);
+    refused_read(&good[..511], 1, 126, 63, Refusal::Length);
+    refused_read(
+        &[good.as_slice(), &[0]].concat(),
+        1,
+        126,
+        63,
+        Refusal::Length,
+    );
+    refused_read(&[], 1, 0, 0, Refusal::Length);
+    refused_read(&good, 1, 125, 63, Refusal::ShortBuffer);
+    refused_read(&good, 1, 126, 62, Refusal::ShortBuffer);
+    refused_read(&good, 8, 159, 10, Refusal::ShortBuffer);
+    refused_read(&unsynced, 1, 126, 63, Refusal::NoSync);
+}
+
+#[test]
+fn every_padding_byte() {
+    for (receivers, padding) in [(3, 4), (4, 10), (5, 24), (6, 10), (7, 20), (8, 4)] {
+        for place in 512 - padding..512 {
+            let mut padded = frame([0x0F, 1, 2, 3, 4]);
+            padded[place] = 0x80;
+            refused_read(&padded, receivers, 160, 25, Refusal::Padding);
+        }
+    }
+}
+
+/// The first that holds is given, each case mending one more thing than the one before.
+#[test]
+fn order_of_a_read() {
+    let mut bad = frame([0; 5]);
+    (bad[0], bad[511]) = (0, 1);
+    refused_read(&bad[..511], 9, 0, 0, Refusal::BadCount);
+    refused_read(&bad[..511], 3, 0, 0, Refusal::Length);
+    refused_read(&bad, 3, 0, 0, Refusal::ShortBuffer);
+    refused_read(&bad, 3, 150, 25, Refusal::NoSync);
+    bad[0] = 0x7F;
+    refused_read(&bad, 3, 150, 25, Refusal::Padding);
+}
+
+fn refused_write(
+    status: Status,
+    (word, receivers): (Word, u8),
+    (iq, mic): (&[i32], &[i16]),
+    frame: usize,
+    refusal: Refusal,
+) {
+    let mut frame = vec![0xEE; frame];
+    let got = status.write(word, receivers, iq, mic, &mut frame);
+    assert_eq!(got, Err(refusal));
+    assert!(frame.iter().all(|&byte| byte == 0xEE));
+}
+
+#[test]
+fn radio_write() {
+    let fresh = Status::fresh();
+    let (iq, mic) = ([0; 126], [0; 63]);
+    let both = (iq.as_slice(), mic.as_slice());
+    let one = (Word::Inputs, 1);
+    refused_write(fresh, (Word::Inputs, 0), both, 512, Refusal::BadCount);
+    refused_write(fresh, (Word::Inputs, 9), both, 512, Refusal::BadCount);
+    refused_write(fresh, one, both, 511, Refusal::Length);
+    refused_write(fresh, one, both, 513, Refusal::Length);
+    refused_write(fresh, one, (&iq[1..], &mic), 512, Refusal::ShortBuffer);
+    refused_write(fresh, one, (&iq, &mic[1..]), 512, Refusal::ShortBuffer);
+    for address in [5, 31, 255] {
+        let word = (Word::Unlisted(address), 1);
+        refused_write(fresh, word, both, 512, Refusal::Range);
+    }
+}
+
+#[test]
+fn radio_write_of_values_that_do_not_fit() {
+    let fresh = Status::fresh();
+    let mic = [0; 63];
+    for (at, value) in [(0, 8_388_608), (125, -8_388_609), (64, i32::MIN)] {
+        let mut iq = [0; 126];
+        iq[at] = value;
+        refused_write(fresh, (Word::Inputs, 1), (&iq, &mic), 512, Refusal::Range);
+    }
+    let board1 = Status {
+        board1: 128,
+        ..fresh
+    };
+    let board2 = Status {
+        board2: 255,
+        ..fresh
+    };
+    let board3 = Status {
+        board3: 128,
+        ..fresh
+    };
+    let board4 = Status {
+        board4: 255,
+        ..fresh
+    };
+    for status in [board1, board2, board3, board4] {
+        let word = (Word::Inputs, 1);
+        refused_write(status, word, (&[0; 126], &mic), 512, Refusal::Range);
+    }
+}
+
+#[test]
+fn samples_past_the_needed_are_not_tested() {
+    let mut iq = [0; 127];
+    iq[126] = i32::MAX;
+    let got = Status::fresh().write(Word::Inputs, 1, &iq, &[0; 63], &mut [0; 512]);
+    assert_eq!(got, Ok(()));
+}
+
+fn refused_host_read(frame: &[u8], audio: usize, refusal: Refusal) {
+    let given = Host {
+        outputs: 255,
+        receivers: 0,
+        ..Host::fresh()
+    };
+    let (mut host, mut audio) = (given, vec![7; audio]);
+    assert_eq!(host.read(frame, &mut audio), Err(refusal));
+    assert_eq!(host, given);
+    assert!(audio.iter().all(|&number| number == 7));
+}
+
+#[test]
+fn host_read() {
+    let good = frame([0x01, 0, 0, 0, 0]);
+    let mut unsynced = good;
+    unsynced[0] = 0xFF;
+    refused_host_read(&good[1..], AUDIO, Refusal::Length);
+    refused_host_read(&[good.as_slice(), &[0]].concat(), AUDIO, Refusal::Length);
+    refused_host_read(&good, AUDIO - 1, Refusal::ShortBuffer);
+    refused_host_read(&unsynced, AUDIO, Refusal::NoSync);
+    refused_host_read(&frame([0x01, 0x0C, 0, 0, 0]), AUDIO, Refusal::Reserved);
+    refused_host_read(&frame([0x01, 0, 0, 0, 0x03]), AUDIO, Refusal::Reserved);
+    refused_host_read(&frame([0x13, 0, 0, 0, 0x80]), AUDIO, Refusal::Reserved);
+}
+
+fn refused_build(builder: Builder, audio: usize, frame: usize, refusal: Refusal) {
+    let (mut after, mut frame) = (builder, vec![0xEE; frame]);
+    assert_eq!(after.build(&vec![0; audio], &mut frame), Err(refusal));
+    assert_eq!(after, builder);
+    assert!(frame.iter().all(|&byte| byte == 0xEE));
+}
+
+#[test]
+fn build() {
+    let fresh = Builder::fresh();
+    for turn in [10, 255] {
+        refused_build(Builder { turn, ..fresh }, 0, 0, Refusal::BadState);
+    }
+    refused_build(fresh, AUDIO, 511, Refusal::Length);
+    refused_build(fresh, AUDIO, 513, Refusal::Length);
+    refused_build(fresh, AUDIO - 1, 512, Refusal::ShortBuffer);
+    for turn in 0..10 {
+        for (outputs, receivers) in [(128, 1), (255, 1), (0, 0), (0, 9), (0, 255)] {
+            let host = Host {
+                outputs,
+                receivers,
+                ..Host::fresh()
+            };
+            refused_build(Builder { host, turn }, AUDIO, 512, Refusal::Range);
+        }
+    }
+}
+
+fn refused_feed(stream: &Stream, piece: usize, output: usize, refusal: Refusal) {
+    let (mut after, mut output) = (stream.clone(), vec![0xEE; output]);
+    assert_eq!(after.feed(&vec![0x7F; piece], &mut output), Err(refusal));
+    assert_eq!(&after, stream);
+    assert!(output.iter().all(|&byte| byte == 0xEE));
+}
+
+#[test]
+fn feed() {
+    let fresh = Stream::fresh();
+    refused_feed(&fresh, 4097, 4096, Refusal::Length);
+    refused_feed(&fresh, 4096, 4095, Refusal::ShortBuffer);
+    let mut full = Stream::fresh();
+    full.counts.total = (1 << 48) - 1;
+    full.counts.skipped = full.counts.total;
+    assert!(full.sound());
+    refused_feed(&full, 2, 4096, Refusal::StreamFull);
+    assert_eq!(full.feed(&[0], &mut [0; 4096]), Ok(0));
+    refused_feed(&full, 1, 4096, Refusal::StreamFull);
+}
+
+#[test]
+fn unsound_streams() {
+    let mut too_many_held = Stream::fresh();
+    (too_many_held.counts.held, too_many_held.counts.total) = (515, 515);
+    let mut byte_past_the_held = Stream::fresh();
+    byte_past_the_held.held[0] = 1;
+    let mut too_long = Stream::fresh();
+    too_long.counts.total = (1 << 48) + 1;
+    too_long.counts.skipped = too_long.counts.total;
+    let mut unequal = Stream::fresh();
+    unequal.counts.total = 1;
+    // 512 times this is 2^64, which is not 0.
+    let mut wrapped = Stream::fresh();
+    wrapped.counts.frames = 1 << 55;
+    for stream in [
+        too_many_held,
+        byte_past_the_held,
+        too_long,
+        unequal,
+        wrapped,
+    ] {
+        assert!(!stream.sound());
+        refused_feed(&stream, 0, 4096, Refusal::BadState);
+        refused_feed(&stream, 4097, 0, Refusal::BadState);
+    }
+}
+
+#[test]
+fn numbers_and_texts() {
+    let all = [
+        Refusal::BadState,
+        Refusal::BadCount,
+        Refusal::Length,
+        Refusal::ShortBuffer,
+        Refusal::StreamFull,
+        Refusal::NoSync,
+        Refusal::Padding,
+        Refusal::Reserved,
+        Refusal::Range,
+    ];
+    let texts = all.map(|refusal| Box::<dyn Error>::from(refusal).to_string());
+    for (number, refusal) in (1..).zip(all) {
+        assert_eq!(refusal.number(), number);
+        let alike = texts.iter().filter(|text| **text == refusal.to_string());
+        assert_eq!(alike.count(), 1);
+    }
+}
+
+#[test]
+fn layout_counts() {
+    for receivers in [0, 9, 255] {
+        assert_eq!(layout(receivers), Err(Refusal::BadCount));
+    }
+}

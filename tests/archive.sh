@@ -1,0 +1,68 @@
+#!/bin/sh
+# Makes target/archive/libcapi.a, the proved library as C and Rust programs of this machine link it, and
+# target/staticlib/libcapi.a, the same for x86-64. It makes nothing anew unless a source has changed.
+#
+# The Rattle compiler proves the library, lowers it to one LLVM module and has its clang compile that, for
+# x86-64 only. On another machine a clang that stands before the compiler's own keeps the module, and the
+# compiler's own clang compiles it once more, for that machine and with the same optimisation.
+set -eu
+cd "$(dirname "$0")/.."
+folder=$PWD/target/archive
+machine=$(uname -m)
+
+sources() {
+    rt version
+    for crate in wire layout radio host stream capi; do
+        find "crates/$crate" -type f -path '*/src/*' -exec sha256sum {} +
+    done | sort
+}
+
+# A copy of the toolchain, by links, whose clang keeps the module.
+keeping_toolchain() {
+    rt=$(readlink -f "$(command -v rt)")
+    real=${RATTLE_HOME:-$(cd "$(dirname "$rt")/.." && pwd -P)}
+    kept=$folder/toolchain
+    rm -rf "$kept"
+    mkdir -p "$kept/on/$machine/toolchain/bin"
+    ln -s "$real"/* "$kept" 2>/dev/null || true
+    ln -s "$real/on/$machine"/* "$kept/on/$machine" 2>/dev/null || true
+    ln -s "$real/on/$machine/toolchain"/* "$kept/on/$machine/toolchain" 2>/dev/null || true
+    ln -s "$real/on/$machine/toolchain/bin"/* "$kept/on/$machine/toolchain/bin"
+    rm "$kept/on/$machine/toolchain/bin/clang"
+    cat >"$kept/on/$machine/toolchain/bin/clang" <<END
+#!/bin/sh
+for word; do
+    case \$word in *.bc) cp "\$word" "$folder/module.bc" ;; esac
+done
+exec "$real/on/$machine/toolchain/bin/clang" "\$@"
+END
+    chmod +x "$kept/on/$machine/toolchain/bin/clang"
+}
+
+# The module for this machine: its text, without the lines and attributes that name another one.
+compile_here() {
+    tools=$real/on/$machine/toolchain/bin
+    "$tools/clang" --target=x86_64-unknown-linux-gnu -x ir "$folder/module.bc" -S -emit-llvm -o "$folder/module.ll" \
+        -Xclang -disable-llvm-passes
+    sed -e '/^target /d' -e 's/"\(target\|tune\)-[a-z]*"="[^"]*"//g' "$folder/module.ll" >"$folder/here.ll"
+    "$tools/clang" --target="$machine-unknown-linux-gnu" -x ir "$folder/here.ll" -c -o "$folder/module.o" \
+        -O3 -fPIC -ffunction-sections -fdata-sections -Wno-override-module
+    rm -f "$folder/libcapi.a"
+    "$tools/llvm-ar" crs "$folder/libcapi.a" "$folder/module.o"
+}
+
+mkdir -p "$folder"
+sources >"$folder/sources.now"
+if [ -f "$folder/libcapi.a" ] && [ -f target/staticlib/libcapi.a ] && cmp -s "$folder/sources" "$folder/sources.now"; then
+    exit
+fi
+rm -f "$folder/sources"
+if [ "$machine" = x86_64 ]; then
+    rt staticlib capi >"$folder/log" 2>&1 || { cat "$folder/log" >&2; exit 1; }
+    cp target/staticlib/libcapi.a "$folder/libcapi.a"
+else
+    keeping_toolchain
+    RATTLE_HOME=$kept rt staticlib capi >"$folder/log" 2>&1 || { cat "$folder/log" >&2; exit 1; }
+    compile_here
+fi
+mv "$folder/sources.now" "$folder/sources"

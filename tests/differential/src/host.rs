@@ -1,0 +1,198 @@
+//! Frames from the host, read and built.
+
+use crate::case::{outcome, Call, Case, Draw, Outcome, Twist};
+use crate::cells::{BUILDER_MOST, HOST, HOST_MOST, OUTPUTS, RECEIVERS, TURN};
+use crate::lent::Guards;
+use crate::model;
+use crate::twist::{
+    cell_count, cell_value, damage, damage_sync, frame_length, slice_length, valid_cells,
+    valid_numbers, FRAME, SYNC,
+};
+use hpsdr::raw;
+
+const AUDIO: usize = 252;
+
+/// Where C0 stands in a frame.
+const CONTROL: usize = 3;
+
+const TURNS: [u32; 19] = [
+    0,
+    1,
+    2,
+    3,
+    4,
+    5,
+    6,
+    7,
+    8,
+    9,
+    10,
+    11,
+    12,
+    255,
+    256,
+    257,
+    265,
+    1 << 31,
+    u32::MAX,
+];
+
+/// Sets each unassigned code and bit of a word: in words 0 and 9 it is refused, in others it is
+/// part of a number.
+const RESERVE: [fn(&mut [u8]); 4] = [
+    |control| control[1] |= 0b1100,
+    |control| control[4] |= 0b11,
+    |control| {
+        control[1] |= 0b1100;
+        control[4] |= 0b11
+    },
+    |control| control[4] |= 0x80,
+];
+
+/// Clears what is unassigned in the word, if it is 0 or 9, so that it reads.
+fn clear_reserved(control: &mut [u8]) {
+    match control[0] >> 1 {
+        0 => {
+            let lowered = |bits: u8, place: u32| bits & !((bits >> 1 & bits) & 1 << place);
+            control[1] = lowered(control[1], 2);
+            control[4] = lowered(control[4], 0);
+        }
+        9 => control[4] &= 0x7f,
+        _ => {}
+    }
+}
+
+fn frame(address: usize, draw: &mut Draw) -> Vec<u8> {
+    let mut frame = draw.random.bytes(FRAME);
+    frame[..CONTROL].copy_from_slice(&SYNC);
+    frame[CONTROL] = (address << 1) as u8 | draw.random.below(2) as u8;
+    clear_reserved(&mut frame[CONTROL..]);
+    frame
+}
+
+pub struct Read {
+    frame: Vec<u8>,
+    audio: Vec<i16>,
+    host: Vec<u32>,
+}
+
+impl Read {
+    /// Each of the unassigned codes in each of words 0 to 10, most often where it is refused.
+    fn set_reserved(&mut self, draw: &mut Draw) {
+        let address = draw.random.pick(&[0, 9, draw.turn % 11]);
+        self.frame = frame(address, draw);
+        RESERVE[draw.turn % RESERVE.len()](&mut self.frame[CONTROL..]);
+    }
+}
+
+impl Case for Read {
+    const CALL: Call = Call {
+        name: "hpsdr_host_read",
+        answers: &[0, 1, 3, 4, 6, 8],
+    };
+    const TWISTS: &'static [Twist<Self>] = &[
+        Read::set_reserved,
+        |case, draw| damage(&mut case.frame, draw),
+        |case, draw| damage_sync(&mut case.frame, draw),
+        |case, draw| frame_length(&mut case.frame, draw),
+        |case, draw| slice_length(&mut case.audio, AUDIO, draw),
+        |case, draw| cell_value(&mut case.host, HOST_MOST, draw),
+        |case, draw| cell_count(&mut case.host, HOST, draw),
+    ];
+
+    fn valid(draw: &mut Draw) -> Self {
+        let any = draw.random.below(128);
+        let address = draw.random.pick(&[draw.turn % 128, draw.turn % 10, any]);
+        Read {
+            frame: frame(address, draw),
+            audio: valid_numbers(AUDIO, draw),
+            host: valid_cells(HOST_MOST, draw),
+        }
+    }
+
+    fn compare(self, guards: &Guards) -> Outcome {
+        let mut frame = guards.lend("frame", &self.frame);
+        let mut audio = guards.lend("audio", &self.audio);
+        let mut host = guards.lend("host", &self.host);
+        // SAFETY: the slices are whole and apart.
+        let library = unsafe {
+            raw::hpsdr_host_read(
+                frame.pointer(),
+                frame.length(),
+                audio.pointer(),
+                audio.length(),
+                host.pointer(),
+                host.length(),
+            )
+        };
+        let reference = model::host_read(frame.reference(), audio.reference(), host.reference());
+        outcome(library, reference, &[&frame, &audio, &host])
+    }
+}
+
+pub struct Build {
+    builder: Vec<u32>,
+    audio: Vec<i16>,
+    frame: Vec<u8>,
+}
+
+impl Build {
+    fn set(&mut self, cell: usize, value: u32) {
+        if let Some(cell) = self.builder.get_mut(cell) {
+            *cell = value;
+        }
+    }
+}
+
+impl Case for Build {
+    const CALL: Call = Call {
+        name: "hpsdr_build",
+        answers: &[0, 1, 3, 4, 9],
+    };
+    const TWISTS: &'static [Twist<Self>] = &[
+        |case, draw| case.set(TURN, draw.in_turn(&TURNS)),
+        |case, draw| case.set(OUTPUTS, draw.in_turn(&[127, 128, 129, 255, 256, 0])),
+        |case, draw| {
+            case.set(
+                RECEIVERS,
+                draw.in_turn(&[0, 1, 8, 9, 10, 16, 255, 256, 257]),
+            )
+        },
+        |case, draw| frame_length(&mut case.frame, draw),
+        |case, draw| slice_length(&mut case.audio, AUDIO, draw),
+        |case, draw| cell_value(&mut case.builder, &BUILDER_MOST, draw),
+        |case, draw| cell_count(&mut case.builder, BUILDER_MOST.len(), draw),
+    ];
+
+    fn valid(draw: &mut Draw) -> Self {
+        let mut builder = valid_cells(&BUILDER_MOST, draw);
+        builder[OUTPUTS] &= 127;
+        builder[RECEIVERS] = 1 + builder[RECEIVERS] % 8;
+        let any = draw.random.below(10);
+        builder[TURN] = draw.random.pick(&[draw.turn % 10, any]) as u32;
+        Build {
+            builder,
+            audio: valid_numbers(AUDIO, draw),
+            frame: draw.random.bytes(FRAME),
+        }
+    }
+
+    fn compare(self, guards: &Guards) -> Outcome {
+        let mut builder = guards.lend("builder", &self.builder);
+        let mut audio = guards.lend("audio", &self.audio);
+        let mut frame = guards.lend("frame", &self.frame);
+        // SAFETY: the slices are whole and apart.
+        let library = unsafe {
+            raw::hpsdr_build(
+                builder.pointer(),
+                builder.length(),
+                audio.pointer(),
+                audio.length(),
+                frame.pointer(),
+                frame.length(),
+            )
+        };
+        let reference = model::build(builder.reference(), audio.reference(), frame.reference());
+        outcome(library, reference, &[&builder, &audio, &frame])
+    }
+}

@@ -1,0 +1,144 @@
+//! Holds the library, through its C door, against the reference: both make the same calls on the same
+//! inputs, and every cell that was lent is compared after each, whether it worked or was refused.
+
+mod case;
+mod host;
+mod lent;
+mod model;
+mod options;
+mod plain;
+mod radio;
+mod stream;
+mod tally;
+mod text;
+mod twist;
+mod whole;
+
+use case::{made, Call, Case, Draw};
+use differential::{cells, random};
+use lent::Guards;
+use options::{Options, USAGE};
+use plain::{Builder, Fresh, Host, Layout, Status, StreamFresh};
+use random::Random;
+use std::process::ExitCode;
+use tally::Tally;
+
+/// A difference, with the name of the call.
+type Differs = (&'static str, String);
+
+/// One case: its number among those of its kind, what it is drawn from, and where it is counted.
+struct Run<'a> {
+    number: usize,
+    random: Random,
+    guards: Guards,
+    tally: &'a mut Tally,
+}
+
+fn single<C: Case>(run: Run) -> Result<(), Differs> {
+    let outcome = made::<C>(run.number, run.random).compare(&run.guards);
+    let returned = outcome.map_err(|difference| (C::CALL.name, difference))?;
+    run.tally.count(&C::CALL, returned);
+    Ok(())
+}
+
+fn whole(run: Run) -> Result<(), Differs> {
+    let mut draw = Draw {
+        random: run.random,
+        turn: run.number,
+    };
+    let ran = whole::run(&mut draw, &run.guards);
+    let ran = ran.map_err(|difference| (stream::Feed::CALL.name, difference))?;
+    for returned in ran.returned {
+        run.tally.count(&stream::Feed::CALL, returned);
+    }
+    run.tally.wholes += 1;
+    run.tally.demanded += u64::from(ran.demanded);
+    Ok(())
+}
+
+struct Kind {
+    run: fn(Run) -> Result<(), Differs>,
+    call: Call,
+    /// How many cases of this kind stand in one round.
+    share: usize,
+}
+
+const fn kind<C: Case>(share: usize) -> Kind {
+    Kind {
+        run: single::<C>,
+        call: C::CALL,
+        share,
+    }
+}
+
+const KINDS: &[Kind] = &[
+    kind::<Layout>(4),
+    kind::<Fresh<Status>>(2),
+    kind::<radio::Read>(30),
+    kind::<radio::Write>(30),
+    kind::<Fresh<Host>>(2),
+    kind::<host::Read>(20),
+    kind::<Fresh<Builder>>(2),
+    kind::<host::Build>(20),
+    kind::<StreamFresh>(2),
+    kind::<stream::Sound>(12),
+    kind::<stream::Feed>(30),
+    // Some sixty calls each.
+    Kind {
+        run: whole,
+        ..kind::<stream::Feed>(1)
+    },
+];
+
+/// The kind of a case, and its number among those of its kind.
+fn kind_of(case: usize) -> (&'static Kind, usize) {
+    let round: usize = KINDS.iter().map(|kind| kind.share).sum();
+    let mut place = case % round;
+    for kind in KINDS {
+        match place.checked_sub(kind.share) {
+            Some(later) => place = later,
+            None => return (kind, case / round * kind.share + place),
+        }
+    }
+    unreachable!("the place is within the round")
+}
+
+fn run(case: usize, options: &Options, tally: &mut Tally) -> Result<(), Differs> {
+    let (kind, number) = kind_of(case);
+    let exact = options.short && case % 2 == 1;
+    (kind.run)(Run {
+        number,
+        random: Random::of_case(options.seed, case as u64),
+        guards: if exact {
+            Guards::none()
+        } else {
+            Guards::around(case)
+        },
+        tally,
+    })
+}
+
+fn main() -> ExitCode {
+    let Some(options) = Options::from(std::env::args().skip(1)) else {
+        eprintln!("{USAGE}");
+        return ExitCode::from(2);
+    };
+    let mut tally = Tally::of(KINDS.iter().map(|kind| kind.call));
+    let mut cases = options.case.map_or(0..usize::MAX, |case| case..case + 1);
+    while let Some(case) = cases.next().filter(|_| tally.calls < options.calls) {
+        if let Err((call, difference)) = run(case, &options, &mut tally) {
+            let (seed, calls) = (options.seed, tally.calls);
+            eprintln!("{call}: seed {seed}, case {case}, after {calls} calls: {difference}");
+            return ExitCode::FAILURE;
+        }
+    }
+    println!("{tally}");
+    if options.case.is_some() {
+        return ExitCode::SUCCESS;
+    }
+    let faults = tally.faults();
+    for fault in &faults {
+        eprintln!("{fault}");
+    }
+    ExitCode::from(u8::from(!faults.is_empty()))
+}

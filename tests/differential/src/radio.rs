@@ -1,0 +1,235 @@
+//! Frames from the radio, read and written.
+
+use crate::case::{outcome, Call, Case, Draw, Outcome, Twist};
+use crate::cells::{STATUS_MOST, VERSIONS};
+use crate::lent::Guards;
+use crate::model;
+use crate::twist::{
+    cell_count, cell_value, damage, damage_sync, frame_length, slice_length, valid_cells,
+    valid_numbers, FRAME, STRANGE_COUNTS, SYNC,
+};
+use hpsdr::raw;
+use reference::row;
+
+const PADDED: [usize; 6] = [3, 4, 5, 6, 7, 8];
+
+/// Samples at and around both ends of 24 bits, and some that are in range only when cut.
+const EDGES: [i32; 12] = [
+    -8_388_608,
+    8_388_607,
+    -8_388_609,
+    8_388_608,
+    -1,
+    0,
+    0x00ff_ffff,
+    0x0100_0000,
+    -0x0100_0000,
+    -0x0100_0001,
+    i32::MIN,
+    i32::MAX,
+];
+
+fn slots(receivers: usize) -> usize {
+    row(receivers).map_or(63, |row| row.slots)
+}
+
+fn samples(receivers: usize) -> usize {
+    row(receivers).map_or(126, |row| 2 * receivers * row.slots)
+}
+
+fn frame(receivers: usize, draw: &mut Draw) -> Vec<u8> {
+    let mut frame = draw.random.bytes(FRAME);
+    if draw.random.one_in(4) {
+        // Bytes that make samples at both ends of their range, and sync in the payload.
+        for byte in &mut frame {
+            *byte = [0x00, 0x7f, 0x80, 0xff][usize::from(*byte % 4)];
+        }
+    }
+    frame[..3].copy_from_slice(&SYNC);
+    let any = draw.random.below(32);
+    let address = draw.random.pick(&[draw.turn % 32, draw.turn % 5, any]);
+    frame[3] = (address << 3) as u8 | draw.random.below(8) as u8;
+    if let Ok(row) = row(receivers) {
+        frame[FRAME - row.padding..].fill(0);
+    }
+    frame
+}
+
+pub struct Read {
+    frame: Vec<u8>,
+    receivers: usize,
+    iq: Vec<i32>,
+    mic: Vec<i16>,
+    status: Vec<u32>,
+}
+
+impl Read {
+    fn of(receivers: usize, draw: &mut Draw) -> Read {
+        Read {
+            frame: frame(receivers, draw),
+            receivers,
+            iq: valid_numbers(samples(receivers), draw),
+            mic: valid_numbers(slots(receivers), draw),
+            status: valid_cells(&STATUS_MOST, draw),
+        }
+    }
+
+    /// Each padding byte of each layout that has some.
+    fn damage_padding(&mut self, draw: &mut Draw) {
+        *self = Read::of(draw.in_turn(&PADDED), draw);
+        let padding = row(self.receivers).map_or(0, |row| row.padding);
+        let place = FRAME - 1 - draw.turn / PADDED.len() % padding;
+        let any = 1 + draw.random.below(255) as u8;
+        self.frame[place] = draw.random.pick(&[1, 0x80, any]);
+    }
+}
+
+impl Case for Read {
+    const CALL: Call = Call {
+        name: "hpsdr_radio_read",
+        answers: &[0, 1, 2, 3, 4, 6, 7],
+    };
+    const TWISTS: &'static [Twist<Self>] = &[
+        Read::damage_padding,
+        |case, draw| damage(&mut case.frame, draw),
+        |case, draw| damage_sync(&mut case.frame, draw),
+        |case, draw| frame_length(&mut case.frame, draw),
+        |case, draw| case.receivers = draw.in_turn(&STRANGE_COUNTS),
+        |case, draw| slice_length(&mut case.iq, samples(case.receivers), draw),
+        |case, draw| slice_length(&mut case.mic, slots(case.receivers), draw),
+        |case, draw| cell_value(&mut case.status, &STATUS_MOST, draw),
+        |case, draw| cell_count(&mut case.status, STATUS_MOST.len(), draw),
+    ];
+
+    fn valid(draw: &mut Draw) -> Self {
+        Read::of(1 + draw.random.below(8), draw)
+    }
+
+    fn compare(self, guards: &Guards) -> Outcome {
+        let mut frame = guards.lend("frame", &self.frame);
+        let mut iq = guards.lend("iq", &self.iq);
+        let mut mic = guards.lend("mic", &self.mic);
+        let mut status = guards.lend("status", &self.status);
+        // SAFETY: the slices are whole and apart.
+        let library = unsafe {
+            raw::hpsdr_radio_read(
+                frame.pointer(),
+                frame.length(),
+                self.receivers,
+                iq.pointer(),
+                iq.length(),
+                mic.pointer(),
+                mic.length(),
+                status.pointer(),
+                status.length(),
+            )
+        };
+        let reference = model::radio_read(
+            frame.reference(),
+            self.receivers,
+            iq.reference(),
+            mic.reference(),
+            status.reference(),
+        );
+        outcome(library, reference, &[&frame, &iq, &mic, &status])
+    }
+}
+
+pub struct Write {
+    status: Vec<u32>,
+    word: usize,
+    receivers: usize,
+    iq: Vec<i32>,
+    mic: Vec<i16>,
+    frame: Vec<u8>,
+}
+
+impl Write {
+    fn set_sample(&mut self, draw: &mut Draw) {
+        let needed = samples(self.receivers);
+        let value = draw.random.pick(&EDGES);
+        // One place past those needed has its turn too, where any value is accepted.
+        if let Some(sample) = self.iq.get_mut(draw.turn % (needed + 1)) {
+            *sample = value;
+        }
+    }
+
+    fn set_version(&mut self, draw: &mut Draw) {
+        let value = draw.random.pick(&[0, 127, 128, 129, 255]);
+        if let Some(cell) = self.status.get_mut(VERSIONS + draw.turn % 4) {
+            *cell = value;
+        }
+    }
+}
+
+impl Case for Write {
+    const CALL: Call = Call {
+        name: "hpsdr_radio_write",
+        answers: &[0, 1, 2, 3, 4, 9],
+    };
+    const TWISTS: &'static [Twist<Self>] = &[
+        Write::set_sample,
+        Write::set_version,
+        |case, draw| case.iq = draw.random.many(case.iq.len()),
+        |case, draw| case.word = draw.turn % 7,
+        |case, draw| case.word = draw.in_turn(&STRANGE_COUNTS),
+        |case, draw| case.receivers = draw.in_turn(&STRANGE_COUNTS),
+        |case, draw| frame_length(&mut case.frame, draw),
+        |case, draw| slice_length(&mut case.iq, samples(case.receivers), draw),
+        |case, draw| slice_length(&mut case.mic, slots(case.receivers), draw),
+        |case, draw| cell_value(&mut case.status, &STATUS_MOST, draw),
+        |case, draw| cell_count(&mut case.status, STATUS_MOST.len(), draw),
+    ];
+
+    fn valid(draw: &mut Draw) -> Self {
+        let receivers = 1 + draw.random.below(8);
+        let needed = samples(receivers);
+        let mut iq: Vec<i32> = valid_numbers(needed, draw);
+        for sample in &mut iq[..needed] {
+            *sample >>= 8;
+        }
+        let mut status = valid_cells(&STATUS_MOST, draw);
+        for version in &mut status[VERSIONS..VERSIONS + 4] {
+            *version &= 127;
+        }
+        Write {
+            status,
+            word: draw.turn % 5,
+            receivers,
+            iq,
+            mic: valid_numbers(slots(receivers), draw),
+            frame: draw.random.bytes(FRAME),
+        }
+    }
+
+    fn compare(self, guards: &Guards) -> Outcome {
+        let mut status = guards.lend("status", &self.status);
+        let mut iq = guards.lend("iq", &self.iq);
+        let mut mic = guards.lend("mic", &self.mic);
+        let mut frame = guards.lend("frame", &self.frame);
+        // SAFETY: the slices are whole and apart.
+        let library = unsafe {
+            raw::hpsdr_radio_write(
+                status.pointer(),
+                status.length(),
+                self.word,
+                self.receivers,
+                iq.pointer(),
+                iq.length(),
+                mic.pointer(),
+                mic.length(),
+                frame.pointer(),
+                frame.length(),
+            )
+        };
+        let reference = model::radio_write(
+            status.reference(),
+            self.word,
+            self.receivers,
+            iq.reference(),
+            mic.reference(),
+            frame.reference(),
+        );
+        outcome(library, reference, &[&status, &iq, &mic, &frame])
+    }
+}

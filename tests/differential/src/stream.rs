@@ -1,0 +1,288 @@
+//! Single calls on a stream record: whether it is sound, and one feeding.
+
+use crate::case::{outcome, Call, Case, Draw, Outcome, Twist};
+use crate::cells::{COUNTS, HELD};
+use crate::lent::Guards;
+use crate::model;
+use crate::text::text;
+use crate::twist::{cell_count, resize, FRAME};
+use hpsdr::raw;
+
+pub const PIECE_MOST: usize = 4096;
+pub const OUTPUT_LEAST: usize = 4096;
+const TOTAL_MOST: u64 = 1 << 48;
+
+const HELD_EDGES: [usize; 9] = [0, 1, 2, 3, 509, 511, 512, 513, 514];
+const PIECE_LENGTHS: [usize; 17] = [
+    0, 1, 2, 3, 509, 510, 511, 512, 513, 514, 515, 516, 1023, 1024, 4094, 4095, 4096,
+];
+const OVER_LONG_PIECES: [usize; 4] = [4097, 4098, 4608, 8192];
+const OUTPUT_LENGTHS: [usize; 9] = [4095, 4096, 4097, 0, 1, 512, 4000, 4608, 8192];
+/// A multiple of this many frames is a number of bytes that is 0 in 64 bits.
+const WRAPPING_FRAMES: u64 = 1 << 55;
+
+const HELD_COUNT: usize = 0;
+const FRAMES: usize = 1;
+const SKIPPED: usize = 2;
+
+fn held_count(draw: &mut Draw) -> usize {
+    let any = draw.random.below(HELD + 1);
+    let edge = draw.random.pick(&HELD_EDGES);
+    draw.random.pick(&[any, edge])
+}
+
+pub struct Record {
+    counts: Vec<u64>,
+    held: Vec<u8>,
+}
+
+impl Record {
+    /// A sound record that holds the given bytes.
+    fn holding(bytes: &[u8], draw: &mut Draw) -> Record {
+        let held = bytes.len() as u64;
+        let near = TOTAL_MOST - draw.random.below(2 * PIECE_MOST) as u64;
+        let any = held + draw.random.bits() % (TOTAL_MOST - held);
+        let small = held + draw.random.below(100_000) as u64;
+        let total = draw.random.pick(&[held, small, any, near, TOTAL_MOST]);
+        let whole = (total - held) / FRAME as u64;
+        let frames = draw.random.bits() % (whole + 1);
+        let frames = draw.random.pick(&[0, frames, whole]);
+        let (more_counts, more_held) = (draw.random.below(3), draw.random.below(3));
+        let mut counts = vec![held, frames, total - held - FRAME as u64 * frames, total];
+        counts.extend(draw.random.many::<u64>(more_counts));
+        let mut cells = bytes.to_vec();
+        cells.resize(HELD, 0);
+        cells.extend(draw.random.bytes(more_held));
+        Record {
+            counts,
+            held: cells,
+        }
+    }
+
+    fn valid(draw: &mut Draw) -> Record {
+        let count = held_count(draw);
+        Record::holding(&text(count, draw), draw)
+    }
+
+    /// Each cell in its turn, off by one or by more.
+    fn shift_count(&mut self, draw: &mut Draw) {
+        let any = draw.random.bits();
+        let shifts = [1, u64::MAX, 512, 1 << 32, 1 << 63, any];
+        let shift = shifts[draw.turn / COUNTS % shifts.len()];
+        self.add(draw.turn % COUNTS, shift);
+    }
+
+    fn add(&mut self, cell: usize, amount: u64) {
+        if let Some(cell) = self.counts.get_mut(cell) {
+            *cell = cell.wrapping_add(amount);
+        }
+    }
+
+    /// Sums that are right in 64 bits and, where a count wraps on the way, wrong in exact arithmetic.
+    fn wrap_sum(&mut self, draw: &mut Draw) {
+        let times = 1 + draw.random.below(511) as u64;
+        match draw.turn % 4 {
+            0 => self.add(FRAMES, WRAPPING_FRAMES * times),
+            1 => {
+                self.add(FRAMES, times);
+                self.add(SKIPPED, (times * FRAME as u64).wrapping_neg());
+            }
+            2 => {
+                self.add(SKIPPED, times);
+                self.add(HELD_COUNT, times.wrapping_neg());
+            }
+            _ => {
+                self.add(FRAMES, WRAPPING_FRAMES - 1);
+                self.add(SKIPPED, FRAME as u64);
+            }
+        }
+    }
+
+    /// More held than may be, with sums that agree.
+    fn hold_too_many(&mut self, draw: &mut Draw) {
+        let counts = [515, 516, 1024, 1 << 16, 1 << 32, (1 << 32) + 3, 1 << 47];
+        let count: u64 = draw.in_turn(&counts);
+        *self = Record::holding(&text(HELD, draw), draw);
+        self.counts[..COUNTS].copy_from_slice(&[count, 0, 0, count]);
+        if draw.random.one_in(4) {
+            self.counts[HELD_COUNT] = draw.random.pick(&[1 << 63, u64::MAX]);
+        }
+    }
+
+    /// A cell that is not zero, each place in its turn, in a record that holds fewer or just these.
+    fn dirty_cell(&mut self, draw: &mut Draw) {
+        let place = draw.turn % HELD;
+        let count = match draw.random.one_in(2) {
+            true => place,
+            false => draw.random.below(place + 2),
+        };
+        *self = Record::holding(&text(count, draw), draw);
+        self.held[place] = 1 + draw.random.below(255) as u8;
+    }
+
+    /// Moves the total, and the sums with it.
+    fn end_near(&mut self, total: u64) {
+        if let [held, frames, skipped, all, ..] = &mut self.counts[..] {
+            *all = total;
+            *frames = (*frames).min((total - *held) / FRAME as u64);
+            *skipped = total - *held - FRAME as u64 * *frames;
+        }
+    }
+
+    /// The total at its most and above it.
+    fn end_at_edge(&mut self, draw: &mut Draw) {
+        *self = Record::valid(draw);
+        let above = draw.in_turn(&[0, 1, 2, 512, 1 << 20, 1 << 48]);
+        self.end_near(TOTAL_MOST + above);
+    }
+}
+
+/// Twists of a record that both calls have.
+macro_rules! record_twists {
+    ($($more:expr),* $(,)?) => { &[
+        |case, draw| case.record.shift_count(draw),
+        |case, draw| case.record.wrap_sum(draw),
+        |case, draw| case.record.hold_too_many(draw),
+        |case, draw| case.record.dirty_cell(draw),
+        |case, draw| case.record.end_at_edge(draw),
+        |case, draw| cell_count(&mut case.record.counts, COUNTS, draw),
+        |case, draw| cell_count(&mut case.record.held, HELD, draw),
+        $($more),*
+    ] };
+}
+
+pub struct Sound {
+    record: Record,
+}
+
+impl Case for Sound {
+    const CALL: Call = Call {
+        name: "hpsdr_stream_sound",
+        answers: &[0, 1],
+    };
+    const TWISTS: &'static [Twist<Self>] = record_twists!();
+
+    fn valid(draw: &mut Draw) -> Self {
+        Sound {
+            record: Record::valid(draw),
+        }
+    }
+
+    fn compare(self, guards: &Guards) -> Outcome {
+        let mut counts = guards.lend("counts", &self.record.counts);
+        let mut held = guards.lend("held", &self.record.held);
+        // SAFETY: the slices are whole and apart.
+        let library = unsafe {
+            raw::hpsdr_stream_sound(
+                counts.pointer(),
+                counts.length(),
+                held.pointer(),
+                held.length(),
+            )
+        };
+        let reference = model::stream_sound(counts.reference(), held.reference());
+        outcome(library, reference, &[&counts, &held])
+    }
+}
+
+pub struct Feed {
+    record: Record,
+    piece: Vec<u8>,
+    output: Vec<u8>,
+}
+
+impl Feed {
+    /// A call from a fresh record on, or from what the call before it left.
+    pub fn fresh() -> Feed {
+        Feed {
+            record: Record {
+                counts: vec![0; COUNTS],
+                held: vec![0; HELD],
+            },
+            piece: Vec::new(),
+            output: vec![0xee; OUTPUT_LEAST],
+        }
+    }
+
+    /// Makes the call on both sides, and takes over what the library left.
+    pub fn step(&mut self, piece: &[u8], guards: &Guards) -> Outcome {
+        self.piece.clear();
+        self.piece.extend_from_slice(piece);
+        let mut counts = guards.lend("counts", &self.record.counts);
+        let mut held = guards.lend("held", &self.record.held);
+        let mut piece = guards.lend("piece", &self.piece);
+        let mut output = guards.lend("output", &self.output);
+        // SAFETY: the slices are whole and apart.
+        let library = unsafe {
+            raw::hpsdr_stream_feed(
+                counts.pointer(),
+                counts.length(),
+                held.pointer(),
+                held.length(),
+                piece.pointer(),
+                piece.length(),
+                output.pointer(),
+                output.length(),
+            )
+        };
+        let reference = model::stream_feed(
+            counts.reference(),
+            held.reference(),
+            piece.reference(),
+            output.reference(),
+        );
+        self.record.counts.copy_from_slice(counts.left());
+        self.record.held.copy_from_slice(held.left());
+        self.output.copy_from_slice(output.left());
+        outcome(library, reference, &[&counts, &held, &piece, &output])
+    }
+
+    /// The frames that stand at the output's start.
+    pub fn frames(&self, count: usize) -> &[u8] {
+        &self.output[..count * FRAME]
+    }
+
+    pub fn skipped(&self) -> u64 {
+        self.record.counts[SKIPPED]
+    }
+
+    /// The total so near its most that the piece just fits, is one too long, or one too short.
+    fn fill_up(&mut self, draw: &mut Draw) {
+        self.record = Record::valid(draw);
+        let room = self.piece.len() as u64 + draw.in_turn(&[0, 1, 2]);
+        self.record.end_near((TOTAL_MOST + 1).saturating_sub(room));
+    }
+}
+
+impl Case for Feed {
+    const CALL: Call = Call {
+        name: "hpsdr_stream_feed",
+        answers: &[0, 1, 3, 4, 5],
+    };
+    const TWISTS: &'static [Twist<Self>] = record_twists!(
+        Feed::fill_up,
+        |case, draw| resize(&mut case.piece, draw.in_turn(&PIECE_LENGTHS), draw),
+        |case, draw| resize(&mut case.piece, draw.in_turn(&OVER_LONG_PIECES), draw),
+        |case, draw| resize(&mut case.output, draw.in_turn(&OUTPUT_LENGTHS), draw),
+    );
+
+    /// Held bytes and piece are neighbours in one text, so that frames and sync lie across both.
+    fn valid(draw: &mut Draw) -> Self {
+        let any = draw.random.below(PIECE_MOST + 1);
+        let edge = draw.in_turn(&PIECE_LENGTHS);
+        let length = draw.random.pick(&[any, edge, draw.turn % 600]);
+        let count = held_count(draw);
+        let both = text(count + length, draw);
+        let more = draw.random.pick(&[0, 0, 1, 100]);
+        Feed {
+            record: Record::holding(&both[..count], draw),
+            piece: both[count..].to_vec(),
+            output: draw.random.bytes(OUTPUT_LEAST + more),
+        }
+    }
+
+    fn compare(mut self, guards: &Guards) -> Outcome {
+        let piece = std::mem::take(&mut self.piece);
+        self.step(&piece, guards)
+    }
+}

@@ -1,0 +1,198 @@
+//! Whole streams, fed piece by piece from a fresh record on. Besides the reference's word on every
+//! call, demand 3 is stated directly, of what was put in: where good frames are followed by a middle of
+//! which no place begins a good frame, and that by good frames and sync, then in every cutting just
+//! those frames come out, and the skipped count is the middle's length.
+
+use crate::case::Draw;
+use crate::lent::Guards;
+use crate::stream::{Feed, PIECE_MOST};
+use crate::text::{frame, near_sync, text};
+use crate::twist::{FRAME, SYNC};
+
+const MIDDLE_LENGTHS: [usize; 16] = [
+    0, 1, 2, 3, 4, 5, 509, 510, 511, 512, 513, 514, 515, 516, 1024, 1027,
+];
+
+/// Good frames, a middle, good frames, and sync.
+pub struct Whole {
+    bytes: Vec<u8>,
+    before: usize,
+    middle: usize,
+}
+
+/// What a whole stream did.
+pub struct Ran {
+    /// What each call returned.
+    pub returned: Vec<u32>,
+    /// Whether demand 3 spoke of it.
+    pub demanded: bool,
+}
+
+fn frames(count: usize, draw: &mut Draw) -> Vec<u8> {
+    (0..count).flat_map(|_| frame(draw)).collect()
+}
+
+/// Frames of which no two neighbours both have their sync.
+fn damaged_frames(length: usize, draw: &mut Draw) -> Vec<u8> {
+    let mut frames = frames(length / FRAME + 1, draw);
+    for first in (FRAME..frames.len()).step_by(2 * FRAME) {
+        frames[first + draw.random.below(SYNC.len())] ^= 1 << draw.random.below(8);
+    }
+    frames.truncate(length);
+    frames
+}
+
+fn middle(length: usize, draw: &mut Draw) -> Vec<u8> {
+    match draw.random.below(6) {
+        0 => vec![0x7f; length],
+        1 => near_sync(length, draw),
+        2 => text(length, draw),
+        3 => damaged_frames(length, draw),
+        _ => draw.random.bytes(length),
+    }
+}
+
+impl Whole {
+    fn of(before: usize, length: usize, after: usize, draw: &mut Draw) -> Whole {
+        let mut bytes = frames(before, draw);
+        bytes.extend(middle(length, draw));
+        bytes.extend(frames(after, draw));
+        bytes.extend(SYNC);
+        if before > 0 {
+            // The last of the first frames is good by the sync after it.
+            bytes[before * FRAME..][..SYNC.len()].copy_from_slice(&SYNC);
+        }
+        Whole {
+            bytes,
+            before: before * FRAME,
+            middle: length,
+        }
+    }
+
+    fn drawn(draw: &mut Draw) -> Whole {
+        let length = match draw.random.one_in(3) {
+            true => draw.random.below(1600),
+            false => draw.random.pick(&MIDDLE_LENGTHS),
+        };
+        let (before, after) = (draw.random.below(4), 1 + draw.random.below(4));
+        Whole::of(before, length, after, draw)
+    }
+
+    /// A short one, for cutting into single bytes.
+    fn short(draw: &mut Draw) -> Whole {
+        let (before, length) = (draw.random.below(2), draw.random.below(60));
+        Whole::of(before, length, 1, draw)
+    }
+
+    fn begins_good_frame(&self, place: usize) -> bool {
+        let sync_at = |place: usize| self.bytes[place..].starts_with(&SYNC);
+        place + FRAME < self.bytes.len() && sync_at(place) && sync_at(place + FRAME)
+    }
+
+    /// Demand 3's premise: no place of the middle begins a good frame. (It may, by imitation.)
+    fn middle_is_bad(&self) -> bool {
+        (0..self.middle).all(|place| !self.begins_good_frame(self.before + place))
+    }
+
+    /// Demand 3's promise, of all that was handed out and of the skipped count.
+    fn check(&self, handed_out: &[u8], skipped: u64) -> Result<(), String> {
+        let after = &self.bytes[self.before + self.middle..];
+        let promised = [
+            &self.bytes[..self.before],
+            &after[..after.len() - SYNC.len()],
+        ]
+        .concat();
+        if skipped != self.middle as u64 {
+            return Err(format!(
+                "demand 3: {} bytes skipped, not {}",
+                skipped, self.middle
+            ));
+        }
+        if handed_out == promised {
+            return Ok(());
+        }
+        let place = handed_out
+            .iter()
+            .zip(&promised)
+            .position(|(got, promised)| got != promised);
+        let place = place.unwrap_or(promised.len().min(handed_out.len()));
+        Err(format!(
+            "demand 3: what is handed out ({} bytes, {} promised) differs at byte {place}",
+            handed_out.len(),
+            promised.len(),
+        ))
+    }
+
+    /// Feeds it in the given pieces.
+    fn run(&self, pieces: &[usize], guards: &Guards) -> Result<Ran, String> {
+        let (mut feed, mut handed_out) = (Feed::fresh(), Vec::new());
+        let (mut returned, mut rest) = (Vec::with_capacity(pieces.len()), &self.bytes[..]);
+        for &length in pieces {
+            let (piece, later) = rest.split_at(length);
+            let answer = feed.step(piece, guards)?;
+            handed_out.extend_from_slice(feed.frames(answer as usize >> 8));
+            returned.push(answer);
+            rest = later;
+        }
+        let demanded = self.middle_is_bad();
+        if demanded {
+            self.check(&handed_out, feed.skipped())?;
+        }
+        Ok(Ran { returned, demanded })
+    }
+}
+
+/// The lengths of pieces that end at the given places and, past the last of them, at the end.
+fn pieces_to(mut ends: Vec<usize>, length: usize) -> Vec<usize> {
+    ends.retain(|&end| end < length);
+    ends.push(length);
+    ends.sort_unstable();
+    let mut start = 0;
+    let mut pieces = Vec::new();
+    for end in ends {
+        while end - start > PIECE_MOST {
+            pieces.push(PIECE_MOST);
+            start += PIECE_MOST;
+        }
+        pieces.push(end - start);
+        start = end;
+    }
+    pieces
+}
+
+/// Places near the edges of frames, those of the frames after the middle included.
+fn frame_edges(whole: &Whole, draw: &mut Draw) -> Vec<usize> {
+    let from = draw.random.pick(&[0, whole.before + whole.middle]);
+    let edges = (from..whole.bytes.len()).step_by(FRAME);
+    edges
+        .map(|edge| (edge + draw.random.below(7)).saturating_sub(3))
+        .collect()
+}
+
+fn random_ends(length: usize, draw: &mut Draw) -> Vec<usize> {
+    let most = draw.random.pick(&[20, 600, 2 * PIECE_MOST]);
+    let mut ends = vec![draw.random.below(most)];
+    while ends.last().is_some_and(|&end| end < length) {
+        let next = ends[ends.len() - 1] + draw.random.below(most);
+        ends.push(next);
+    }
+    ends
+}
+
+/// A whole stream, in a cutting of which every kind has its turn.
+pub fn run(draw: &mut Draw, guards: &Guards) -> Result<Ran, String> {
+    let every_byte = draw.turn % 24 == 23;
+    let whole = match every_byte {
+        true => Whole::short(draw),
+        false => Whole::drawn(draw),
+    };
+    let length = whole.bytes.len();
+    let ends = match draw.turn % 4 {
+        _ if every_byte => (1..length).collect(),
+        0 => Vec::new(),
+        1 => vec![draw.turn / 4 % length],
+        2 => frame_edges(&whole, draw),
+        _ => random_ends(length, draw),
+    };
+    whole.run(&pieces_to(ends, length), guards)
+}

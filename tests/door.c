@@ -1,0 +1,868 @@
+/* Calls every function of the header with good and refused input, and compares the answer and every lent cell with
+ * what document 01 says. Prints a line for each fault, and exits 1 if there is one. */
+#include <hpsdr.h>
+
+#include <stdarg.h>
+#include <stdbool.h>
+#include <stddef.h>
+#include <stdint.h>
+#include <stdio.h>
+#include <string.h>
+
+enum { MOST_RECEIVERS = 8, MOST_IQ = 160, MOST_MIC = 63, LAST_WORD = 4, LAST_TURN = 9, FIRST_PAYLOAD = 8 };
+#define MOST_BYTES (UINT64_C(1) << 48)
+
+/* All that can be lent. Of each three the middle one is lent, and the other two are its guards. */
+struct desk {
+    struct hpsdr_row row[3];
+    struct hpsdr_status status[3];
+    struct hpsdr_host host[3];
+    struct hpsdr_builder builder[3];
+    struct hpsdr_counts counts[3];
+    uint8_t held[3][HPSDR_HELD];
+    uint8_t frame[3][HPSDR_FRAME + 1];
+    uint8_t piece[3][HPSDR_PIECE_MOST + 1];
+    uint8_t output[3][HPSDR_OUTPUT_LEAST];
+    int32_t iq[3][MOST_IQ];
+    int16_t mic[3][MOST_MIC];
+    int16_t audio[3][HPSDR_AUDIO];
+};
+
+static const struct area {
+    const char *name;
+    size_t start, size;
+} areas[] = {
+#define AREA(member) {#member, offsetof(struct desk, member), sizeof(((struct desk *)0)->member)}
+    AREA(row),   AREA(status), AREA(host),   AREA(builder), AREA(counts), AREA(held),
+    AREA(frame), AREA(piece),  AREA(output), AREA(iq),      AREA(mic),    AREA(audio),
+#undef AREA
+};
+
+/* What is passed besides the pointers. */
+struct numbers {
+    size_t row, status, host, builder, counts, held, frame, piece, output, iq, mic, audio, receivers, word;
+};
+static const struct numbers usual = {
+    .row = HPSDR_ROW_CELLS, .status = HPSDR_STATUS_CELLS, .host = HPSDR_HOST_CELLS, .builder = HPSDR_BUILDER_CELLS,
+    .counts = HPSDR_COUNTS_CELLS, .held = HPSDR_HELD, .frame = HPSDR_FRAME, .output = HPSDR_OUTPUT_LEAST,
+    .iq = MOST_IQ, .mic = MOST_MIC, .audio = HPSDR_AUDIO, .receivers = 1};
+
+static const struct hpsdr_row rows[MOST_RECEIVERS] = {{8, 63, 0},   {14, 36, 0},  {20, 25, 4},  {26, 19, 10},
+                                                      {32, 15, 24}, {38, 13, 10}, {44, 11, 20}, {50, 10, 4}};
+static const struct hpsdr_status fresh_status = {.io1 = 1, .io2 = 1, .io3 = 1, .io4 = 1};
+static const struct hpsdr_host fresh_host = {.receivers = 1};
+
+static struct desk lent, expected;
+static struct numbers pass;
+static unsigned faults;
+
+static uint32_t layout(void) { return hpsdr_layout(pass.receivers, &lent.row[1], pass.row); }
+static uint32_t status_fresh(void) { return hpsdr_status_fresh(&lent.status[1], pass.status); }
+static uint32_t host_fresh(void) { return hpsdr_host_fresh(&lent.host[1], pass.host); }
+static uint32_t builder_fresh(void) { return hpsdr_builder_fresh(&lent.builder[1], pass.builder); }
+static uint32_t radio_read(void) {
+    return hpsdr_radio_read(lent.frame[1], pass.frame, pass.receivers, lent.iq[1], pass.iq, lent.mic[1], pass.mic,
+                            &lent.status[1], pass.status);
+}
+static uint32_t radio_write(void) {
+    return hpsdr_radio_write(&lent.status[1], pass.status, pass.word, pass.receivers, lent.iq[1], pass.iq,
+                             lent.mic[1], pass.mic, lent.frame[1], pass.frame);
+}
+static uint32_t host_read(void) {
+    return hpsdr_host_read(lent.frame[1], pass.frame, lent.audio[1], pass.audio, &lent.host[1], pass.host);
+}
+static uint32_t build(void) {
+    return hpsdr_build(&lent.builder[1], pass.builder, lent.audio[1], pass.audio, lent.frame[1], pass.frame);
+}
+static uint32_t stream_fresh(void) {
+    return hpsdr_stream_fresh(&lent.counts[1], pass.counts, lent.held[1], pass.held);
+}
+static uint32_t stream_sound(void) {
+    return hpsdr_stream_sound(&lent.counts[1], pass.counts, lent.held[1], pass.held);
+}
+static uint32_t stream_feed(void) {
+    return hpsdr_stream_feed(&lent.counts[1], pass.counts, lent.held[1], pass.held, lent.piece[1], pass.piece,
+                             lent.output[1], pass.output);
+}
+
+static void report(const char *format, ...) {
+    va_list values;
+    va_start(values, format);
+    vprintf(format, values);
+    va_end(values);
+    putchar('\n');
+    faults++;
+}
+
+/* Reports the first byte of an area that is not as expected. */
+static void compare(const char *what, const struct area *area) {
+    const uint8_t *is = (const uint8_t *)&lent + area->start, *should = (const uint8_t *)&expected + area->start;
+    for (size_t place = 0; place < area->size; place++)
+        if (is[place] != should[place]) {
+            report("%s: byte %zu of the three of %s is %02X, expected %02X", what, place, area->name, is[place],
+                   should[place]);
+            return;
+        }
+}
+
+/* Calls, and compares with the answer (and what is found) and with the expected desk. */
+static void run(const char *what, uint32_t (*call)(void), uint32_t answer, uint32_t found) {
+    uint32_t got = call();
+    if (got != (answer | found << 8))
+        report("%s: got answer %u and found %u, expected %u and %u", what, (unsigned)hpsdr_answer_of(got),
+               (unsigned)hpsdr_found_in(got), (unsigned)answer, (unsigned)found);
+    for (size_t at = 0; at < sizeof areas / sizeof *areas; at++)
+        compare(what, &areas[at]);
+}
+
+static void expect_unchanged(void) { memcpy(&expected, &lent, sizeof lent); }
+
+static void refuse(const char *what, uint32_t (*call)(void), enum hpsdr_answer refusal) {
+    expect_unchanged();
+    run(what, call, refusal, 0);
+}
+
+/* A desk of noise, but for fresh records and a frame of sync and zeros. */
+static void set_out(void) {
+    uint8_t *bytes = (uint8_t *)&lent;
+    for (size_t at = 0; at < sizeof lent; at++)
+        bytes[at] = (uint8_t)(at * 31 + at / 256 + 7);
+    pass = usual;
+    lent.status[1] = fresh_status;
+    lent.host[1] = fresh_host;
+    lent.builder[1] = (struct hpsdr_builder){fresh_host, 0};
+    lent.counts[1] = (struct hpsdr_counts){0, 0, 0, 0};
+    memset(lent.held[1], 0, sizeof lent.held[1]);
+    memset(lent.frame[1], 0, sizeof lent.frame[1]);
+    memset(lent.frame[1], 0x7F, 3);
+    expect_unchanged();
+}
+
+/* Those of one receiver. */
+static void expect_zero_samples(void) {
+    memset(expected.iq[1], 0, 2 * rows[0].slots * sizeof *expected.iq[1]);
+    memset(expected.mic[1], 0, rows[0].slots * sizeof *expected.mic[1]);
+}
+
+static void set_control(uint8_t *frame, const uint8_t control[5]) { memcpy(frame + 3, control, 5); }
+
+/* ---- layout and fresh records ---- */
+
+static void test_layout(void) {
+    for (size_t receivers = 1; receivers <= MOST_RECEIVERS; receivers++) {
+        set_out();
+        pass.receivers = receivers;
+        pass.row = receivers % 2 ? HPSDR_ROW_CELLS : HPSDR_ROW_CELLS + 2;
+        expected.row[1] = rows[receivers - 1];
+        run("layout", layout, HPSDR_ACCEPTED, 0);
+    }
+    const size_t wrong[] = {0, 9, SIZE_MAX};
+    for (size_t at = 0; at < 3; at++) {
+        set_out();
+        pass.receivers = wrong[at];
+        refuse("layout of a wrong count", layout, HPSDR_BAD_COUNT);
+        pass.row = HPSDR_ROW_CELLS - 1;
+        refuse("layout of a wrong count and too few cells", layout, HPSDR_BAD_STATE);
+    }
+}
+
+/* What stood in the cells before plays no part. */
+static void set_out_unset_records(void) {
+    set_out();
+    memset(&lent.status[1], 0xFF, sizeof lent.status[1]);
+    memset(&lent.host[1], 0xFF, sizeof lent.host[1]);
+    memset(&lent.builder[1], 0xFF, sizeof lent.builder[1]);
+    memset(&lent.counts[1], 0xFF, sizeof lent.counts[1]);
+    memset(lent.held[1], 0xFF, sizeof lent.held[1]);
+    expect_unchanged();
+}
+
+static void test_fresh(size_t more) {
+    set_out_unset_records();
+    pass.status += more;
+    pass.host += more;
+    pass.builder += more;
+    pass.counts += more;
+    pass.held += more;
+    expected.status[1] = fresh_status;
+    run("status fresh", status_fresh, HPSDR_ACCEPTED, 0);
+    expected.host[1] = fresh_host;
+    run("host fresh", host_fresh, HPSDR_ACCEPTED, 0);
+    expected.builder[1] = (struct hpsdr_builder){fresh_host, 0};
+    run("builder fresh", builder_fresh, HPSDR_ACCEPTED, 0);
+    expected.counts[1] = (struct hpsdr_counts){0, 0, 0, 0};
+    memset(expected.held[1], 0, sizeof expected.held[1]);
+    run("stream fresh", stream_fresh, HPSDR_ACCEPTED, 0);
+}
+
+static void test_too_few_cells(void) {
+    set_out_unset_records();
+    pass.status--;
+    pass.host--;
+    pass.builder--;
+    pass.counts--;
+    refuse("status fresh of 25 cells", status_fresh, HPSDR_BAD_STATE);
+    refuse("host fresh of 50 cells", host_fresh, HPSDR_BAD_STATE);
+    refuse("builder fresh of 51 cells", builder_fresh, HPSDR_BAD_STATE);
+    refuse("stream fresh of 3 counts", stream_fresh, HPSDR_BAD_STATE);
+    pass.counts = HPSDR_COUNTS_CELLS;
+    pass.held--;
+    refuse("stream fresh of 513 bytes", stream_fresh, HPSDR_BAD_STATE);
+    set_out();
+    pass.status = pass.host = pass.builder = pass.counts = 0;
+    refuse("radio read without a record", radio_read, HPSDR_BAD_STATE);
+    refuse("radio write without a record", radio_write, HPSDR_BAD_STATE);
+    refuse("host read without a record", host_read, HPSDR_BAD_STATE);
+    refuse("build without a record", build, HPSDR_BAD_STATE);
+    refuse("stream sound without counts", stream_sound, HPSDR_BAD_STATE);
+    refuse("stream feed without counts", stream_feed, HPSDR_BAD_STATE);
+    pass.counts = HPSDR_COUNTS_CELLS;
+    pass.held--;
+    refuse("stream sound of 513 bytes", stream_sound, HPSDR_BAD_STATE);
+    refuse("stream feed of 513 bytes", stream_feed, HPSDR_BAD_STATE);
+}
+
+/* ---- cells that no record holds ---- */
+
+enum { ANY = -1, BYTE = 255, LEVEL = 65535 };
+
+static const int64_t status_most[] = {
+    1, 1, 1, 1, 1, 1, 1, 1, 1, 1, 1, 1, 1, BYTE, BYTE, BYTE, /* keys and word 0 */
+    LEVEL, LEVEL, LEVEL, LEVEL, LEVEL, LEVEL,                /* words 1 to 3 */
+    BYTE, BYTE, BYTE, BYTE};
+static const int64_t builder_most[] = {
+    1, 3, 2, 1, 3, 1, 1, BYTE, 3, 1, 1, 1, 3, 1, 2, 1, BYTE, 1, 1, /* MOX and word 0 */
+    ANY, ANY, ANY, ANY, ANY, ANY, ANY, ANY,                         /* words 1 to 8 */
+    BYTE, 1, 1, 1, 1, 1, 1, 1, 1, 1, 1, 1, 1, 1, 1, 1, 1, 1, 1, 1, 1, 1, 1, 1, LAST_TURN};
+
+static void refuse_above(const char *what, uint32_t (*call)(void), uint32_t *cell, int64_t most) {
+    if (most == ANY)
+        return;
+    const uint32_t before = *cell;
+    *cell = (uint32_t)most + 1;
+    refuse(what, call, HPSDR_BAD_STATE);
+    *cell = UINT32_MAX;
+    refuse(what, call, HPSDR_BAD_STATE);
+    *cell = before;
+}
+
+/* An unlisted word keeps each cell as it is, the keys (whose bits are set) or MOX apart. */
+static void test_cells(void) {
+    const uint8_t unlisted_radio[5] = {31 << 3 | 7, 1, 2, 3, 4}, unlisted_host[5] = {127 << 1 | 1, 1, 2, 3, 4};
+    for (size_t at = 0; at < HPSDR_STATUS_CELLS; at++) {
+        set_out();
+        set_control(lent.frame[1], unlisted_radio);
+        uint32_t *cell = (uint32_t *)&lent.status[1] + at;
+        refuse_above("radio read of a cell too large", radio_read, cell, status_most[at]);
+        refuse_above("radio write of a cell too large", radio_write, cell, status_most[at]);
+        *cell = (uint32_t)status_most[at];
+        expect_unchanged();
+        expect_zero_samples();
+        expected.status[1].dot = expected.status[1].dash = expected.status[1].ptt = 1;
+        run("radio read of the largest cell", radio_read, HPSDR_ACCEPTED, 31);
+    }
+    for (size_t at = 0; at < HPSDR_BUILDER_CELLS; at++) {
+        set_out();
+        refuse_above("build of a cell too large", build, (uint32_t *)&lent.builder[1] + at, builder_most[at]);
+        if (at >= HPSDR_HOST_CELLS)
+            continue;
+        set_control(lent.frame[1], unlisted_host);
+        uint32_t *cell = (uint32_t *)&lent.host[1] + at;
+        refuse_above("host read of a cell too large", host_read, cell, builder_most[at]);
+        *cell = (uint32_t)builder_most[at];
+        expect_unchanged();
+        memset(expected.audio[1], 0, sizeof expected.audio[1]);
+        expected.host[1].mox = 1;
+        run("host read of the largest cell", host_read, HPSDR_ACCEPTED, 127);
+    }
+}
+
+/* ---- radio frames ---- */
+
+static int32_t sample(size_t at) {
+    static const int32_t first[] = {8388607, -8388608, -1, 0};
+    return at < 4 ? first[at] : (int32_t)at * 50021 - 4000000;
+}
+
+static int16_t microphone_value(size_t slot) { return (int16_t)(slot ? 500 - 13 * (int)slot : -32768); }
+
+static void put_samples(struct desk *desk, size_t receivers) {
+    const size_t slots = rows[receivers - 1].slots;
+    for (size_t at = 0; at < 2 * receivers * slots; at++)
+        desk->iq[1][at] = sample(at);
+    for (size_t slot = 0; slot < slots; slot++)
+        desk->mic[1][slot] = microphone_value(slot);
+}
+
+static uint8_t *put_number(uint8_t *place, uint32_t number, unsigned bytes) {
+    while (bytes--)
+        *place++ = (uint8_t)(number >> 8 * bytes);
+    return place;
+}
+
+/* The payload of those samples, by document 01's drawing. */
+static void draw_samples(uint8_t *frame, size_t receivers) {
+    uint8_t *place = frame + FIRST_PAYLOAD;
+    for (size_t slot = 0; slot < rows[receivers - 1].slots; slot++) {
+        for (size_t at = 2 * receivers * slot; at < 2 * receivers * (slot + 1); at++)
+            place = put_number(place, (uint32_t)sample(at), 3);
+        place = put_number(place, (uint32_t)microphone_value(slot), 2);
+    }
+    memset(place, 0, (size_t)(frame + HPSDR_FRAME - place));
+}
+
+static void test_samples(size_t receivers, bool longer) {
+    set_out();
+    pass.receivers = receivers;
+    if (!longer) {
+        pass.mic = rows[receivers - 1].slots;
+        pass.iq = 2 * receivers * pass.mic;
+    }
+    draw_samples(lent.frame[1], receivers);
+    expect_unchanged();
+    put_samples(&expected, receivers);
+    run("radio read of samples", radio_read, HPSDR_ACCEPTED, 0);
+    memset(lent.frame[1], 0xEE, HPSDR_FRAME);
+    if (longer && receivers < MOST_RECEIVERS)
+        lent.iq[1][MOST_IQ - 1] = INT32_MAX;
+    expect_unchanged();
+    memset(expected.frame[1], 0, HPSDR_FRAME);
+    memset(expected.frame[1], 0x7F, 3);
+    draw_samples(expected.frame[1], receivers);
+    run("radio write of samples", radio_write, HPSDR_ACCEPTED, 0);
+}
+
+static const struct hpsdr_status full_status = {
+    .dot = 1, .ptt = 1, .adc1 = 1, .adc3 = 1, .adc4 = 1, .io2 = 1, .io3 = 1, .pll = 1,
+    .mercury = 0x12, .penelope = 0x34, .main = 0xFF, .ain5 = 0x0102, .ain1 = 0x0304, .ain2 = 0x0506, .ain3 = 0x0708,
+    .ain4 = 0x090A, .ain6 = 0xFFFE, .board1 = 127, .board2 = 1, .board3 = 2, .board4 = 64};
+static const uint8_t full_status_words[LAST_WORD + 1][5] = {{0x05, 0x33, 0x12, 0x34, 0xFF},
+                                                            {0x0D, 0x01, 0x02, 0x03, 0x04},
+                                                            {0x15, 0x05, 0x06, 0x07, 0x08},
+                                                            {0x1D, 0x09, 0x0A, 0xFF, 0xFE},
+                                                            {0x25, 0xFF, 0x02, 0x05, 0x81}};
+
+/* The record after the words 0 to `word` of the full one, on a fresh one. */
+static struct hpsdr_status status_after(size_t word) {
+    struct hpsdr_status after = full_status;
+    if (word < 1)
+        after.ain5 = after.ain1 = 0;
+    if (word < 2)
+        after.ain2 = after.ain3 = 0;
+    if (word < 3)
+        after.ain4 = after.ain6 = 0;
+    if (word < 4)
+        after.adc2 = after.adc3 = after.adc4 = after.board1 = after.board2 = after.board3 = after.board4 = 0;
+    return after;
+}
+
+static void test_status_words(size_t more) {
+    set_out();
+    pass.status += more;
+    expect_zero_samples();
+    for (size_t word = 0; word <= LAST_WORD; word++) {
+        set_control(lent.frame[1], full_status_words[word]);
+        set_control(expected.frame[1], full_status_words[word]);
+        expected.status[1] = status_after(word);
+        run("radio read of a word", radio_read, HPSDR_ACCEPTED, (uint32_t)word);
+    }
+    for (size_t word = 0; word <= LAST_WORD; word++) {
+        pass.word = word;
+        memset(lent.frame[1], 0xEE, HPSDR_FRAME);
+        set_control(expected.frame[1], full_status_words[word]);
+        run("radio write of a word", radio_write, HPSDR_ACCEPTED, 0);
+    }
+}
+
+/* Each flag's bit alone, both ways. The bit of an input is 1 where it is not active, and C1's bit 7 is written as 0. */
+static void test_status_bits(void) {
+    static const struct {
+        uint8_t control[5];
+        struct hpsdr_status after;
+    } bits[] = {{{0x04, 0, 0, 0, 0}, {.dot = 1, .io1 = 1, .io2 = 1, .io3 = 1, .io4 = 1}},
+                {{0x02, 0, 0, 0, 0}, {.dash = 1, .io1 = 1, .io2 = 1, .io3 = 1, .io4 = 1}},
+                {{0x01, 0, 0, 0, 0}, {.ptt = 1, .io1 = 1, .io2 = 1, .io3 = 1, .io4 = 1}},
+                {{0, 0x01, 0, 0, 0}, {.adc1 = 1, .io1 = 1, .io2 = 1, .io3 = 1, .io4 = 1}},
+                {{0, 0x02, 0, 0, 0}, {.io2 = 1, .io3 = 1, .io4 = 1}},
+                {{0, 0x04, 0, 0, 0}, {.io1 = 1, .io3 = 1, .io4 = 1}},
+                {{0, 0x08, 0, 0, 0}, {.io1 = 1, .io2 = 1, .io4 = 1}},
+                {{0, 0x10, 0, 0, 0}, {.io1 = 1, .io2 = 1, .io3 = 1}},
+                {{0, 0x20, 0, 0, 0}, {.pll = 1, .io1 = 1, .io2 = 1, .io3 = 1, .io4 = 1}},
+                {{0, 0x40, 0, 0, 0}, {.toggle = 1, .io1 = 1, .io2 = 1, .io3 = 1, .io4 = 1}},
+                {{0, 0x80, 0, 0, 0}, {.io1 = 1, .io2 = 1, .io3 = 1, .io4 = 1}},
+                {{4 << 3, 1, 0, 0, 0}, {.adc1 = 1, .io1 = 1, .io2 = 1, .io3 = 1, .io4 = 1}},
+                {{4 << 3, 0, 1, 0, 0}, {.adc2 = 1, .io1 = 1, .io2 = 1, .io3 = 1, .io4 = 1}},
+                {{4 << 3, 0, 0, 1, 0}, {.adc3 = 1, .io1 = 1, .io2 = 1, .io3 = 1, .io4 = 1}},
+                {{4 << 3, 0, 0, 0, 1}, {.adc4 = 1, .io1 = 1, .io2 = 1, .io3 = 1, .io4 = 1}}};
+    for (size_t at = 0; at < sizeof bits / sizeof *bits; at++) {
+        set_out();
+        set_control(lent.frame[1], bits[at].control);
+        expect_unchanged();
+        expect_zero_samples();
+        expected.status[1] = bits[at].after;
+        pass.word = bits[at].control[0] >> 3;
+        run("radio read of one bit", radio_read, HPSDR_ACCEPTED, (uint32_t)pass.word);
+        memset(lent.frame[1], 0xEE, HPSDR_FRAME);
+        expected.frame[1][4] &= 0x7F;
+        run("radio write of one bit", radio_write, HPSDR_ACCEPTED, 0);
+    }
+}
+
+static void test_unlisted_status_words(void) {
+    for (uint8_t address = LAST_WORD + 1; address < 32; address++) {
+        set_out();
+        lent.status[1] = full_status;
+        set_control(lent.frame[1], (const uint8_t[]){(uint8_t)(address << 3 | 2), 0xFF, 0xFF, 0xFF, 0xFF});
+        expect_unchanged();
+        expect_zero_samples();
+        expected.status[1].dot = expected.status[1].ptt = 0;
+        expected.status[1].dash = 1;
+        run("radio read of an unlisted word", radio_read, HPSDR_ACCEPTED, address);
+    }
+}
+
+/* Each refusal, mending what gave the one before. */
+static void test_radio_read_refusals(void) {
+    set_out();
+    lent.frame[1][2] = 0x7E;
+    lent.frame[1][511] = 1;
+    lent.status[1].pll = 2;
+    pass.receivers = 9;
+    pass.frame = 511;
+    pass.mic = 24;
+    refuse("radio read, bad state", radio_read, HPSDR_BAD_STATE);
+    lent.status[1].pll = 1;
+    refuse("radio read for 9", radio_read, HPSDR_BAD_COUNT);
+    pass.receivers = 0;
+    refuse("radio read for 0", radio_read, HPSDR_BAD_COUNT);
+    pass.receivers = 3;
+    refuse("radio read of 511 bytes", radio_read, HPSDR_LENGTH);
+    pass.frame = 513;
+    refuse("radio read of 513 bytes", radio_read, HPSDR_LENGTH);
+    pass.frame = 512;
+    refuse("radio read to 24 microphone values", radio_read, HPSDR_SHORT_BUFFER);
+    pass.mic = 25;
+    pass.iq = 149;
+    refuse("radio read to 149 samples", radio_read, HPSDR_SHORT_BUFFER);
+    pass.iq = 150;
+    refuse("radio read without sync", radio_read, HPSDR_NO_SYNC);
+    lent.frame[1][2] = 0x7F;
+    refuse("radio read with padding", radio_read, HPSDR_PADDING);
+}
+
+static void test_sync_and_padding(void) {
+    for (size_t receivers = 1; receivers <= MOST_RECEIVERS; receivers++) {
+        set_out();
+        pass.receivers = receivers;
+        for (size_t place = HPSDR_FRAME - rows[receivers - 1].padding; place < HPSDR_FRAME; place++) {
+            lent.frame[1][place] = 0x80;
+            refuse("radio read with a byte of padding", radio_read, HPSDR_PADDING);
+            lent.frame[1][place] = 0;
+        }
+        for (size_t place = 0; place < 3; place++) {
+            lent.frame[1][place] = 0xFF;
+            refuse("radio read with a byte of no sync", radio_read, HPSDR_NO_SYNC);
+            refuse("host read with a byte of no sync", host_read, HPSDR_NO_SYNC);
+            lent.frame[1][place] = 0x7F;
+        }
+    }
+}
+
+static void test_radio_write_refusals(void) {
+    set_out();
+    put_samples(&lent, 3);
+    pass = (struct numbers){.status = 25, .receivers = 9, .frame = 513, .iq = 149, .mic = 25, .word = 5};
+    refuse("radio write of 25 cells", radio_write, HPSDR_BAD_STATE);
+    pass.status = 26;
+    refuse("radio write for 9", radio_write, HPSDR_BAD_COUNT);
+    pass.receivers = 3;
+    refuse("radio write to 513 bytes", radio_write, HPSDR_LENGTH);
+    pass.frame = 511;
+    refuse("radio write to 511 bytes", radio_write, HPSDR_LENGTH);
+    pass.frame = 512;
+    refuse("radio write of 149 samples", radio_write, HPSDR_SHORT_BUFFER);
+    pass.iq = 150;
+    pass.mic = 24;
+    refuse("radio write of 24 microphone values", radio_write, HPSDR_SHORT_BUFFER);
+    pass.mic = 25;
+    refuse("radio write of word 5", radio_write, HPSDR_RANGE);
+    pass.word = SIZE_MAX;
+    refuse("radio write of the last word there is", radio_write, HPSDR_RANGE);
+    pass.word = 1;
+    for (uint32_t *version = &lent.status[1].board1; version <= &lent.status[1].board4; version++) {
+        *version = 128;
+        refuse("radio write of version 128", radio_write, HPSDR_RANGE);
+        *version = 0;
+    }
+    for (size_t at = 0; at < 150; at++) {
+        lent.iq[1][at] = at % 2 ? 8388608 : -8388609;
+        refuse("radio write of a sample too large", radio_write, HPSDR_RANGE);
+        lent.iq[1][at] = sample(at);
+    }
+}
+
+/* ---- host frames ---- */
+
+static int16_t audio_number(size_t at) { return (int16_t)(at ? (int)at * 259 - 32000 : -32768); }
+
+static void put_audio(struct desk *desk) {
+    for (size_t at = 0; at < HPSDR_AUDIO; at++)
+        desk->audio[1][at] = audio_number(at);
+}
+
+static void draw_audio(uint8_t *frame) {
+    for (size_t at = 0; at < HPSDR_AUDIO; at++)
+        put_number(frame + FIRST_PAYLOAD + 2 * at, (uint32_t)audio_number(at), 2);
+}
+
+static const struct hpsdr_host full_host = {
+    .mox = 1, .speed = HPSDR_384_KHZ, .source10 = HPSDR_10_MERCURY, .source122 = HPSDR_122_PENELOPE,
+    .boards = HPSDR_BOARD_MERCURY, .microphone = HPSDR_MICROPHONE_PENELOPE, .outputs = 0x55,
+    .attenuator = HPSDR_10_DB, .preamp = 1, .random = 1, .antenna = HPSDR_ANTENNA_RX2, .relay = HPSDR_TX3,
+    .receivers = 8, .time_stamp = 1, .transmitter = 0x01020304,
+    .frequencies = {0x11121314, 0x21222324, 0x31323334, 0x41424344, 0x51525354, 0x61626364, 0xFFFEFDFC},
+    .drive = 0xA5, .mic_boost = 1, .apollo_filter = 1, .apollo_tuner = 1, .manual_filters = 1,
+    .high_pass_20 = 1, .high_pass_9_5 = 1, .high_pass_1_5 = 1, .tr_disabled = 1,
+    .low_pass_30_20 = 1, .low_pass_80 = 1, .low_pass_12_10 = 1, .low_pass_17_15 = 1};
+static const uint8_t full_host_words[LAST_TURN + 1][5] = {
+    {0x01, 0xCB, 0xAA, 0x55, 0x7A}, {0x03, 0x01, 0x02, 0x03, 0x04}, {0x05, 0x11, 0x12, 0x13, 0x14},
+    {0x07, 0x21, 0x22, 0x23, 0x24}, {0x09, 0x31, 0x32, 0x33, 0x34}, {0x0B, 0x41, 0x42, 0x43, 0x44},
+    {0x0D, 0x51, 0x52, 0x53, 0x54}, {0x0F, 0x61, 0x62, 0x63, 0x64}, {0x11, 0xFF, 0xFE, 0xFD, 0xFC},
+    {0x13, 0xA5, 0x4D, 0x96, 0x65}};
+
+/* The words in the order 9 to 0 on a fresh record: after each the record has the full one's cells from it on. */
+static void test_host_words(size_t more) {
+    static const size_t first_cell[] = {1, 19, 20, 21, 22, 23, 24, 25, 26, 27};
+    set_out();
+    pass.host += more;
+    pass.audio += more;
+    draw_audio(lent.frame[1]);
+    expect_unchanged();
+    put_audio(&expected);
+    for (size_t left = LAST_TURN + 1; left > 0; left--) {
+        const size_t word = left - 1;
+        set_control(lent.frame[1], full_host_words[word]);
+        set_control(expected.frame[1], full_host_words[word]);
+        expected.host[1].mox = 1;
+        memcpy((uint32_t *)&expected.host[1] + first_cell[word], (const uint32_t *)&full_host + first_cell[word],
+               (HPSDR_HOST_CELLS - first_cell[word]) * sizeof(uint32_t));
+        run("host read of a word", host_read, HPSDR_ACCEPTED, (uint32_t)word);
+    }
+}
+
+static void test_builds(size_t more) {
+    set_out();
+    pass.builder += more;
+    pass.audio += more;
+    lent.builder[1].host = full_host;
+    put_audio(&lent);
+    expect_unchanged();
+    draw_audio(expected.frame[1]);
+    for (size_t turn = 0; turn <= LAST_TURN; turn++) {
+        memset(lent.frame[1], 0xEE, HPSDR_FRAME);
+        set_control(expected.frame[1], full_host_words[turn]);
+        expected.builder[1].turn = turn == LAST_TURN ? 0 : (uint32_t)turn + 1;
+        run("build", build, HPSDR_ACCEPTED, 0);
+    }
+}
+
+/* A word on a fresh record, with the one cell that it then changes; and the frame built of that record. */
+static void test_host_cell(const uint8_t control[5], size_t cell, uint32_t value) {
+    const uint32_t address = control[0] >> 1;
+    set_out();
+    set_control(lent.frame[1], control);
+    expect_unchanged();
+    memset(expected.audio[1], 0, sizeof expected.audio[1]);
+    ((uint32_t *)&expected.host[1])[cell] = value;
+    run("host read of one cell", host_read, HPSDR_ACCEPTED, address);
+    if (address > LAST_TURN)
+        return;
+    memset(lent.frame[1], 0xEE, HPSDR_FRAME);
+    lent.builder[1] = (struct hpsdr_builder){expected.host[1], address};
+    expected.builder[1] = (struct hpsdr_builder){expected.host[1], address == LAST_TURN ? 0 : address + 1};
+    run("build of one cell", build, HPSDR_ACCEPTED, 0);
+}
+
+#define HOST_CELL(member) (offsetof(struct hpsdr_host, member) / sizeof(uint32_t))
+
+/* Each code of word 0 by itself, up to the last that is assigned. */
+static void test_codes(void) {
+    static const struct {
+        size_t cell;
+        unsigned byte, bit;
+        uint32_t last;
+    } codes[] = {{HOST_CELL(speed), 1, 0, 3},        {HOST_CELL(source10), 1, 2, 2},   {HOST_CELL(source122), 1, 4, 1},
+                 {HOST_CELL(boards), 1, 5, 3},       {HOST_CELL(microphone), 1, 7, 1}, {HOST_CELL(class_e), 2, 0, 1},
+                 {HOST_CELL(outputs), 2, 1, 127},    {HOST_CELL(attenuator), 3, 0, 3}, {HOST_CELL(preamp), 3, 2, 1},
+                 {HOST_CELL(dither), 3, 3, 1},       {HOST_CELL(random), 3, 4, 1},     {HOST_CELL(antenna), 3, 5, 3},
+                 {HOST_CELL(rx_out), 3, 7, 1},       {HOST_CELL(relay), 4, 0, 2},      {HOST_CELL(duplex), 4, 2, 1},
+                 {HOST_CELL(time_stamp), 4, 6, 1},   {HOST_CELL(common_frequency), 4, 7, 1}};
+    for (size_t at = 0; at < sizeof codes / sizeof *codes; at++)
+        for (uint32_t code = 0; code <= codes[at].last; code++) {
+            uint8_t control[5] = {0};
+            control[codes[at].byte] = (uint8_t)(code << codes[at].bit);
+            test_host_cell(control, codes[at].cell, code);
+        }
+    for (uint8_t receivers = 1; receivers <= MOST_RECEIVERS; receivers++)
+        test_host_cell((const uint8_t[]){0, 0, 0, 0, (uint8_t)((receivers - 1) << 3)}, HOST_CELL(receivers), receivers);
+}
+
+/* Each bit of word 9 by itself: its cells are in the order of the bits, from C2's bit 0. */
+static void test_filter_bits(void) {
+    for (unsigned bit = 0; bit < 23; bit++) {
+        uint8_t control[5] = {9 << 1};
+        control[2 + bit / 8] = (uint8_t)(1u << bit % 8);
+        test_host_cell(control, HOST_CELL(mic_boost) + bit, 1);
+    }
+}
+
+static void test_mox(void) {
+    for (uint8_t address = 0; address < 128; address++)
+        test_host_cell((const uint8_t[]){(uint8_t)(address << 1 | 1), 0, 0, 0, 0}, HOST_CELL(mox), 1);
+}
+
+static void test_host_read_refusals(void) {
+    set_out();
+    set_control(lent.frame[1], (const uint8_t[]){1, 0, 0, 0, 0x17});
+    lent.frame[1][0] = 0;
+    lent.host[1].relay = 3;
+    pass.audio = HPSDR_AUDIO - 1;
+    pass.frame = 511;
+    refuse("host read, bad state", host_read, HPSDR_BAD_STATE);
+    lent.host[1].relay = 2;
+    refuse("host read of 511 bytes", host_read, HPSDR_LENGTH);
+    pass.frame = 513;
+    refuse("host read of 513 bytes", host_read, HPSDR_LENGTH);
+    pass.frame = 512;
+    refuse("host read to 251 numbers", host_read, HPSDR_SHORT_BUFFER);
+    pass.audio = HPSDR_AUDIO;
+    refuse("host read without sync", host_read, HPSDR_NO_SYNC);
+    lent.frame[1][0] = 0x7F;
+    refuse("host read of relay 3", host_read, HPSDR_RESERVED);
+    set_control(lent.frame[1], (const uint8_t[]){0, 0x0C, 0, 0, 0});
+    refuse("host read of source 3", host_read, HPSDR_RESERVED);
+    set_control(lent.frame[1], (const uint8_t[]){9 << 1, 0, 0, 0, 0x80});
+    refuse("host read of word 9's last bit", host_read, HPSDR_RESERVED);
+}
+
+static void test_build_refusals(void) {
+    for (uint32_t turn = 0; turn <= LAST_TURN; turn++) {
+        set_out();
+        lent.builder[1].host.outputs = 128;
+        lent.builder[1].turn = 10;
+        pass.frame = 511;
+        pass.audio = HPSDR_AUDIO - 1;
+        refuse("build of turn 10", build, HPSDR_BAD_STATE);
+        lent.builder[1].turn = turn;
+        refuse("build to 511 bytes", build, HPSDR_LENGTH);
+        pass.frame = 513;
+        refuse("build to 513 bytes", build, HPSDR_LENGTH);
+        pass.frame = 512;
+        refuse("build of 251 numbers", build, HPSDR_SHORT_BUFFER);
+        pass.audio = HPSDR_AUDIO;
+        refuse("build of outputs 128", build, HPSDR_RANGE);
+        lent.builder[1].host.outputs = 127;
+        lent.builder[1].host.receivers = 0;
+        refuse("build of 0 receivers", build, HPSDR_RANGE);
+        lent.builder[1].host.receivers = 9;
+        refuse("build of 9 receivers", build, HPSDR_RANGE);
+    }
+}
+
+/* ---- the stream reader ---- */
+
+static void set_counts(uint64_t held, uint64_t frames, uint64_t skipped, uint64_t total) {
+    lent.counts[1] = (struct hpsdr_counts){held, frames, skipped, total};
+}
+
+static void test_sound(void) {
+    static const struct {
+        struct hpsdr_counts counts;
+        enum hpsdr_answer answer;
+    } cases[] = {{{0, 0, 0, 0}, HPSDR_ACCEPTED},
+                 {{514, 2, 3, 1541}, HPSDR_ACCEPTED},
+                 {{515, 0, 0, 515}, HPSDR_BAD_STATE},
+                 {{UINT64_MAX, 0, 1, 0}, HPSDR_BAD_STATE},
+                 {{514, 2, 3, 1540}, HPSDR_BAD_STATE},
+                 {{0, 0, MOST_BYTES, MOST_BYTES}, HPSDR_ACCEPTED},
+                 {{0, 0, MOST_BYTES + 1, MOST_BYTES + 1}, HPSDR_BAD_STATE},
+                 /* Sums that are the total only where 2^64 is taken for 0. */
+                 {{0, UINT64_C(1) << 55, 0, 0}, HPSDR_BAD_STATE},
+                 {{0, 1, UINT64_MAX - 511, 0}, HPSDR_BAD_STATE},
+                 {{1, 0, UINT64_MAX, 0}, HPSDR_BAD_STATE}};
+    for (size_t at = 0; at < sizeof cases / sizeof *cases; at++) {
+        set_out();
+        lent.counts[1] = cases[at].counts;
+        expect_unchanged();
+        run("stream sound", stream_sound, cases[at].answer, 0);
+        pass.piece = HPSDR_PIECE_MOST + 1;
+        pass.output = HPSDR_OUTPUT_LEAST - 1;
+        refuse("stream feed of 4,097", stream_feed, cases[at].answer ? HPSDR_BAD_STATE : HPSDR_LENGTH);
+    }
+    for (size_t held = 0; held < HPSDR_HELD; held++) {
+        set_out();
+        set_counts(held, 0, 0, held);
+        lent.held[1][HPSDR_HELD - 1] = 1;
+        refuse("stream sound with a byte after the held", stream_sound, HPSDR_BAD_STATE);
+        refuse("stream feed with a byte after the held", stream_feed, HPSDR_BAD_STATE);
+    }
+}
+
+static void test_feed_refusals(void) {
+    set_out();
+    set_counts(0, 0, MOST_BYTES - 4095, MOST_BYTES - 4095);
+    pass.piece = HPSDR_PIECE_MOST;
+    pass.output = HPSDR_OUTPUT_LEAST - 1;
+    refuse("stream feed to 4,095", stream_feed, HPSDR_SHORT_BUFFER);
+    pass.output = HPSDR_OUTPUT_LEAST;
+    refuse("stream feed past 2^48", stream_feed, HPSDR_STREAM_FULL);
+    set_counts(0, 0, MOST_BYTES - 2, MOST_BYTES - 2);
+    pass.piece = 2;
+    expect_unchanged();
+    expected.counts[1] = (struct hpsdr_counts){2, 0, MOST_BYTES - 2, MOST_BYTES};
+    memcpy(expected.held[1], lent.piece[1], 2);
+    run("stream feed up to 2^48", stream_feed, HPSDR_ACCEPTED, 0);
+    pass.piece = 0;
+    run("stream feed of nothing", stream_feed, HPSDR_ACCEPTED, 0);
+    pass.piece = 1;
+    refuse("stream feed of a full stream", stream_feed, HPSDR_STREAM_FULL);
+}
+
+/* What document 01's reading of the first `length` bytes gives, place by place. */
+static struct hpsdr_counts read_plainly(const uint8_t *bytes, size_t length, size_t starts[]) {
+    static const uint8_t sync[3] = {0x7F, 0x7F, 0x7F};
+    struct hpsdr_counts counts = {0, 0, 0, length};
+    size_t place = 0;
+    while (length - place >= 515)
+        if (memcmp(bytes + place, sync, 3) == 0 && memcmp(bytes + place + 512, sync, 3) == 0) {
+            starts[counts.frames++] = place;
+            place += 512;
+        } else {
+            counts.skipped++;
+            place++;
+        }
+    counts.held = length - place;
+    return counts;
+}
+
+enum { RECORDED = 2 + 4 * HPSDR_FRAME + 37 + 3 };
+
+/* Two stray bytes of sync; frames A, B (of 7F all over), C; 37 stray bytes that begin with sync; D; sync. */
+static void record(uint8_t bytes[RECORDED]) {
+    static const size_t frames[] = {2, 514, 1026, 1575}, syncs[] = {0, 1538, 2087};
+    memset(bytes, 0x55, RECORDED);
+    for (size_t at = 0; at < 4; at++) {
+        memset(bytes + frames[at], at == 1 ? 0x7F : (int)at, HPSDR_FRAME);
+        memset(bytes + frames[at], 0x7F, 3);
+    }
+    for (size_t at = 0; at < 3; at++)
+        memset(bytes + syncs[at], 0x7F, 3);
+    bytes[514 + 3] = 0;
+}
+
+/* Feeds a recording in pieces of one size, and compares after each with the plain reading of all so far. */
+static void test_pieces(const uint8_t *bytes, size_t length, size_t size) {
+    size_t starts[16];
+    set_out();
+    pass.counts++;
+    pass.held++;
+    pass.output++;
+    for (size_t fed = 0; fed < length;) {
+        pass.piece = size < length - fed ? size : length - fed;
+        memcpy(lent.piece[1], bytes + fed, pass.piece);
+        fed += pass.piece;
+        expect_unchanged();
+        const uint64_t before = lent.counts[1].frames;
+        const struct hpsdr_counts after = read_plainly(bytes, fed, starts);
+        expected.counts[1] = after;
+        memset(expected.held[1], 0, HPSDR_HELD);
+        memcpy(expected.held[1], bytes + fed - after.held, (size_t)after.held);
+        for (uint64_t frame = before; frame < after.frames; frame++)
+            memcpy(expected.output[1] + HPSDR_FRAME * (frame - before), bytes + starts[frame], HPSDR_FRAME);
+        run("stream feed of a piece", stream_feed, HPSDR_ACCEPTED, (uint32_t)(after.frames - before));
+        run("stream sound after a piece", stream_sound, HPSDR_ACCEPTED, 0);
+    }
+}
+
+static void test_recording(void) {
+    static const size_t sizes[] = {1, 2, 3, 511, 512, 513, 514, 515, 1000, HPSDR_PIECE_MOST};
+    static uint8_t bytes[RECORDED], nine_frames[9 * HPSDR_FRAME + 3];
+    record(bytes);
+    size_t starts[16];
+    const struct hpsdr_counts counts = read_plainly(bytes, RECORDED, starts);
+    if (counts.frames != 4 || counts.skipped != 39 || counts.held != 3)
+        report("the plain reading found %u frames, expected 4", (unsigned)counts.frames);
+    for (size_t at = 0; at < sizeof sizes / sizeof *sizes; at++)
+        test_pieces(bytes, RECORDED, sizes[at]);
+    for (size_t place = 0; place < sizeof nine_frames; place++)
+        nine_frames[place] = place % HPSDR_FRAME < 3 ? 0x7F : (uint8_t)(place / HPSDR_FRAME);
+    test_pieces(nine_frames, sizeof nine_frames, HPSDR_PIECE_MOST);
+}
+
+/* Rows j, k and l: some bytes with sync at 0 and perhaps at 512. */
+static void test_row(size_t length, bool far_sync, const struct hpsdr_counts after) {
+    set_out();
+    pass.piece = length;
+    memset(lent.piece[1], 0x11, length);
+    memset(lent.piece[1], 0x7F, 3);
+    if (far_sync)
+        memset(lent.piece[1] + 512, 0x7F, 3);
+    expect_unchanged();
+    expected.counts[1] = after;
+    memcpy(expected.output[1], lent.piece[1], HPSDR_FRAME * (size_t)after.frames);
+    memcpy(expected.held[1], lent.piece[1] + length - after.held, (size_t)after.held);
+    run("stream feed of row j, k or l", stream_feed, HPSDR_ACCEPTED, (uint32_t)after.frames);
+}
+
+/* The most that can come of a call: 514 held bytes and 4,096 make eight frames. */
+static void test_eight_frames(void) {
+    set_out();
+    for (size_t place = 0; place < HPSDR_HELD + HPSDR_PIECE_MOST; place++) {
+        const uint8_t byte = place % HPSDR_FRAME < 3 ? 0x7F : (uint8_t)(place / HPSDR_FRAME);
+        *(place < HPSDR_HELD ? lent.held[1] + place : lent.piece[1] + place - HPSDR_HELD) = byte;
+    }
+    set_counts(HPSDR_HELD, 0, 0, HPSDR_HELD);
+    pass.piece = HPSDR_PIECE_MOST;
+    expect_unchanged();
+    expected.counts[1] = (struct hpsdr_counts){HPSDR_HELD, 8, 0, HPSDR_HELD + HPSDR_PIECE_MOST};
+    memcpy(expected.output[1], lent.held[1], HPSDR_HELD);
+    memcpy(expected.output[1] + HPSDR_HELD, lent.piece[1], HPSDR_OUTPUT_LEAST - HPSDR_HELD);
+    memcpy(expected.held[1], lent.piece[1] + HPSDR_PIECE_MOST - HPSDR_HELD, HPSDR_HELD);
+    run("stream feed of eight frames", stream_feed, HPSDR_ACCEPTED, 8);
+}
+
+int main(void) {
+    test_layout();
+    test_fresh(0);
+    test_fresh(2);
+    test_too_few_cells();
+    test_cells();
+    for (size_t receivers = 1; receivers <= MOST_RECEIVERS; receivers++) {
+        test_samples(receivers, false);
+        test_samples(receivers, true);
+    }
+    test_status_words(0);
+    test_status_words(3);
+    test_status_bits();
+    test_unlisted_status_words();
+    test_radio_read_refusals();
+    test_sync_and_padding();
+    test_radio_write_refusals();
+    test_host_words(0);
+    test_host_words(3);
+    test_builds(0);
+    test_builds(3);
+    test_codes();
+    test_filter_bits();
+    test_mox();
+    test_host_read_refusals();
+    test_build_refusals();
+    test_sound();
+    test_feed_refusals();
+    test_row(514, false, (struct hpsdr_counts){514, 0, 0, 514});
+    test_row(515, true, (struct hpsdr_counts){3, 1, 0, 515});
+    test_row(515, false, (struct hpsdr_counts){514, 0, 1, 515});
+    test_recording();
+    test_eight_frames();
+    return faults ? 1 : 0;
+}

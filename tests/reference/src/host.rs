@@ -1,0 +1,263 @@
+//! Host frames (EP2), the host record and the host's turn of words.
+
+use crate::bits::{bit, byte, code, flags};
+use crate::frame::{begin, open, whole, whole_mut, Control};
+use crate::refusal::{BAD_STATE, RANGE, RESERVED, SHORT_BUFFER};
+
+/// 63 slots of L, R, I and Q.
+const AUDIO: usize = 252;
+const LAST_TURN: u8 = 9;
+/// The code that neither the 10 MHz source nor the transmit relay assigns.
+const UNASSIGNED: u8 = 3;
+const OUTPUTS_MOST: u8 = 127;
+
+/// What the host tells the radio. Named choices are held as their codes.
+#[derive(Clone, Copy, Debug, PartialEq, Eq)]
+pub struct Host {
+    /// MOX, in every frame.
+    pub mox: bool,
+    /// Speed 48, 96, 192, 384 kHz: 0 to 3.
+    pub speed: u8,
+    /// 10 MHz source Atlas or Excalibur, Penelope, Mercury: 0 to 2.
+    pub source10: u8,
+    /// 122.88 MHz source: 0 or 1.
+    pub source122: u8,
+    /// Boards: 0 to 3.
+    pub boards: u8,
+    /// Microphone source: 0 or 1.
+    pub microphone: u8,
+    /// Class E.
+    pub class_e: bool,
+    /// Open collector outputs: 0 to 127.
+    pub outputs: u8,
+    /// Alex attenuator 0, 10, 20, 30 dB: 0 to 3.
+    pub attenuator: u8,
+    /// Preamp.
+    pub preamp: bool,
+    /// Dither.
+    pub dither: bool,
+    /// Random.
+    pub random: bool,
+    /// Receive antenna: 0 to 3.
+    pub antenna: u8,
+    /// Receive out.
+    pub rx_out: bool,
+    /// Transmit relay Tx1 to Tx3: 0 to 2.
+    pub relay: u8,
+    /// Duplex.
+    pub duplex: bool,
+    /// Receivers: 1 to 8.
+    pub receivers: u8,
+    /// Time stamp.
+    pub timestamp: bool,
+    /// Common frequency.
+    pub common: bool,
+    /// The transmitter's frequency in Hz.
+    pub transmitter: u32,
+    /// The frequencies of receivers 1 to 7 in Hz.
+    pub frequencies: [u32; 7],
+    /// Drive.
+    pub drive: u8,
+    /// Mic boost, line-in, Apollo filter, Apollo tuner, auto tune, filter
+    /// board, manual filters, VNA.
+    pub controls: [bool; 8],
+    /// High-pass 13, 20, 9.5, 6.5, 1.5 MHz, bypass, 6 m amplifier, T/R relay
+    /// disabled.
+    pub high_pass: [bool; 8],
+    /// Low-pass 30/20, 60/40, 80, 160, 6, 12/10, 17/15 m.
+    pub low_pass: [bool; 7],
+}
+
+/// A host record and the word due next.
+#[derive(Clone, Copy, Debug, PartialEq, Eq)]
+pub struct Builder {
+    /// The record that is sent.
+    pub host: Host,
+    /// The word due next: 0 to 9.
+    pub turn: u8,
+}
+
+impl Host {
+    /// What all-zero words give; so there is one receiver.
+    pub fn fresh() -> Host {
+        Host {
+            mox: false,
+            speed: 0,
+            source10: 0,
+            source122: 0,
+            boards: 0,
+            microphone: 0,
+            class_e: false,
+            outputs: 0,
+            attenuator: 0,
+            preamp: false,
+            dither: false,
+            random: false,
+            antenna: 0,
+            rx_out: false,
+            relay: 0,
+            duplex: false,
+            receivers: 1,
+            timestamp: false,
+            common: false,
+            transmitter: 0,
+            frequencies: [0; 7],
+            drive: 0,
+            controls: [false; 8],
+            high_pass: [false; 8],
+            low_pass: [false; 7],
+        }
+    }
+
+    /// Takes in one word; gives its address.
+    fn take(&mut self, control: Control) -> u8 {
+        let [c0, c1, c2, c3, c4] = control;
+        let address = c0 >> 1;
+        self.mox = bit(c0, 0);
+        let frequency = u32::from_be_bytes([c1, c2, c3, c4]);
+        match address {
+            0 => self.take_settings([c1, c2, c3, c4]),
+            1 => self.transmitter = frequency,
+            2..=8 => self.frequencies[usize::from(address - 2)] = frequency,
+            9 => self.take_filters([c1, c2, c3, c4]),
+            _ => {}
+        }
+        address
+    }
+
+    fn take_settings(&mut self, [c1, c2, c3, c4]: [u8; 4]) {
+        self.speed = code(c1, 0);
+        self.source10 = code(c1, 2);
+        self.source122 = c1 >> 4 & 1;
+        self.boards = code(c1, 5);
+        self.microphone = c1 >> 7;
+        self.class_e = bit(c2, 0);
+        self.outputs = c2 >> 1;
+        self.attenuator = code(c3, 0);
+        self.preamp = bit(c3, 2);
+        self.dither = bit(c3, 3);
+        self.random = bit(c3, 4);
+        self.antenna = code(c3, 5);
+        self.rx_out = bit(c3, 7);
+        self.relay = code(c4, 0);
+        self.duplex = bit(c4, 2);
+        self.receivers = (c4 >> 3 & 0b111) + 1;
+        self.timestamp = bit(c4, 6);
+        self.common = bit(c4, 7);
+    }
+
+    fn take_filters(&mut self, [c1, c2, c3, c4]: [u8; 4]) {
+        self.drive = c1;
+        self.controls = flags(c2);
+        self.high_pass = flags(c3);
+        self.low_pass = flags(c4);
+    }
+
+    /// C0 to C4 of the word due at `turn`, which is at most 9.
+    fn control(&self, turn: u8) -> Control {
+        let [c1, c2, c3, c4] = match turn {
+            0 => self.settings(),
+            1 => self.transmitter.to_be_bytes(),
+            2..=8 => self.frequencies[usize::from(turn - 2)].to_be_bytes(),
+            _ => self.filters(),
+        };
+        [turn << 1 | u8::from(self.mox), c1, c2, c3, c4]
+    }
+
+    fn settings(&self) -> [u8; 4] {
+        let c1 = self.speed
+            | self.source10 << 2
+            | self.source122 << 4
+            | self.boards << 5
+            | self.microphone << 7;
+        let c2 = u8::from(self.class_e) | self.outputs << 1;
+        let c3 = self.attenuator
+            | byte([self.preamp, self.dither, self.random]) << 2
+            | self.antenna << 5
+            | u8::from(self.rx_out) << 7;
+        let c4 = self.relay
+            | u8::from(self.duplex) << 2
+            | (self.receivers - 1) << 3
+            | byte([self.timestamp, self.common]) << 6;
+        [c1, c2, c3, c4]
+    }
+
+    fn filters(&self) -> [u8; 4] {
+        let (controls, high_pass) = (byte(self.controls), byte(self.high_pass));
+        [self.drive, controls, high_pass, byte(self.low_pass)]
+    }
+
+    fn has_unassigned_code(&self) -> bool {
+        self.source10 == UNASSIGNED || self.relay == UNASSIGNED
+    }
+
+    fn fits(&self) -> bool {
+        let one_bit_codes = [self.source122, self.microphone];
+        let two_bit_codes = [
+            self.speed,
+            self.source10,
+            self.boards,
+            self.attenuator,
+            self.antenna,
+            self.relay,
+        ];
+        self.outputs <= OUTPUTS_MOST
+            && (1..=8).contains(&self.receivers)
+            && one_bit_codes.iter().all(|&code| code <= 1)
+            && two_bit_codes.iter().all(|&code| code <= 3)
+    }
+}
+
+/// Whether an unassigned code or bit is set in the word.
+fn sets_reserved([c0, c1, _, _, c4]: Control) -> bool {
+    match c0 >> 1 {
+        0 => code(c1, 2) == UNASSIGNED || code(c4, 0) == UNASSIGNED,
+        9 => bit(c4, 7),
+        _ => false,
+    }
+}
+
+/// Reads one host frame: 252 numbers in the order L, R, I, Q, and its word
+/// into the host record. `Ok` is the word's address, 0 to 127.
+///
+/// Refused: 3 for a frame not of 512 bytes, 4 for an audio slice under 252, 6
+/// without sync, 8 for an unassigned code or bit.
+pub fn host_read(frame: &[u8], audio: &mut [i16], host: &mut Host) -> Result<u8, u8> {
+    let frame = whole(frame)?;
+    let audio = audio.get_mut(..AUDIO).ok_or(SHORT_BUFFER)?;
+    let (control, payload) = open(frame)?;
+    if sets_reserved(control) {
+        return Err(RESERVED);
+    }
+    for (number, pair) in audio.iter_mut().zip(payload.chunks_exact(2)) {
+        *number = i16::from_be_bytes([pair[0], pair[1]]);
+    }
+    Ok(host.take(control))
+}
+
+/// Writes the host frame whose word is the turn's, and moves the turn on.
+///
+/// Refused: 1 for a turn above 9, 3 for a frame not of 512 bytes, 4 for an
+/// audio slice under 252, 8 for an unassigned code in the record, 9 for
+/// collector outputs above 127, receivers not 1 to 8, or a code that its bits
+/// cannot hold. The whole record is tested, whichever word is due.
+pub fn build(builder: &mut Builder, audio: &[i16], frame: &mut [u8]) -> Result<(), u8> {
+    let Builder { host, turn } = builder;
+    if *turn > LAST_TURN {
+        return Err(BAD_STATE);
+    }
+    let frame = whole_mut(frame)?;
+    let audio = audio.get(..AUDIO).ok_or(SHORT_BUFFER)?;
+    if host.has_unassigned_code() {
+        return Err(RESERVED);
+    }
+    if !host.fits() {
+        return Err(RANGE);
+    }
+    let payload = begin(frame, host.control(*turn));
+    for (pair, number) in payload.chunks_exact_mut(2).zip(audio) {
+        pair.copy_from_slice(&number.to_be_bytes());
+    }
+    *turn = if *turn == LAST_TURN { 0 } else { *turn + 1 };
+    Ok(())
+}

@@ -1,0 +1,34 @@
+//! An independent implementation of the frames and the stream reader that
+//! document 01 (the scope) defines.
+//!
+//! Every refusal is `Err` of its number in the scope's table:
+//!
+//! | No. | Name |
+//! |---|---|
+//! | 1 | BAD_STATE |
+//! | 2 | BAD_COUNT |
+//! | 3 | LENGTH |
+//! | 4 | SHORT_BUFFER |
+//! | 5 | STREAM_FULL |
+//! | 6 | NO_SYNC |
+//! | 7 | PADDING |
+//! | 8 | RESERVED |
+//! | 9 | RANGE |
+//!
+//! The first that holds is the answer, and after it every lent slice and
+//! record is as it was.
+
+#![forbid(unsafe_code)]
+#![warn(missing_docs)]
+
+mod bits;
+mod frame;
+mod host;
+mod radio;
+mod refusal;
+mod stream;
+
+pub use frame::{row, Row};
+pub use host::{build, host_read, Builder, Host};
+pub use radio::{radio_read, radio_write, Status};
+pub use stream::{Stream, MOST};

@@ -1,0 +1,108 @@
+//! What several test files share.
+#![allow(dead_code)]
+
+use reference::{host_read, radio_read, Host, Status, Stream, MOST};
+use std::fmt::Debug;
+
+pub const SYNC: [u8; 3] = [0x7F, 0x7F, 0x7F];
+
+/// The scope's table: n, slot, slots, padding.
+pub const TABLE: [(usize, usize, usize, usize); 8] = [
+    (1, 8, 63, 0),
+    (2, 14, 36, 0),
+    (3, 20, 25, 4),
+    (4, 26, 19, 10),
+    (5, 32, 15, 24),
+    (6, 38, 13, 10),
+    (7, 44, 11, 20),
+    (8, 50, 10, 4),
+];
+
+/// A frame with the given C0 to C4 and an all-zero payload.
+pub fn frame(control: [u8; 5]) -> [u8; 512] {
+    let mut frame = [0; 512];
+    frame[..3].copy_from_slice(&SYNC);
+    frame[3..8].copy_from_slice(&control);
+    frame
+}
+
+/// Reads a one-receiver frame into `status`; gives the answer.
+pub fn read_radio_into(status: &mut Status, frame: &[u8]) -> Result<u8, u8> {
+    radio_read(frame, 1, &mut [0; 126], &mut [0; 63], status)
+}
+
+/// The status that C0 to C4 make of a fresh one, and the address.
+pub fn radio_word(control: [u8; 5]) -> (Status, u8) {
+    let mut status = Status::fresh();
+    let address = read_radio_into(&mut status, &frame(control)).unwrap();
+    (status, address)
+}
+
+/// The host record that C0 to C4 make of a fresh one, and the address.
+pub fn host_word(control: [u8; 5]) -> (Host, u8) {
+    let mut host = Host::fresh();
+    let address = host_read(&frame(control), &mut [0; 252], &mut host).unwrap();
+    (host, address)
+}
+
+/// A fixed sequence of numbers without a visible pattern.
+pub struct Noise(pub u64);
+
+impl Noise {
+    pub fn word(&mut self) -> u64 {
+        self.0 ^= self.0 << 13;
+        self.0 ^= self.0 >> 7;
+        self.0 ^= self.0 << 17;
+        self.0
+    }
+
+    pub fn below(&mut self, end: usize) -> usize {
+        ((self.word() >> 16) % end as u64) as usize
+    }
+
+    pub fn byte(&mut self) -> u8 {
+        (self.word() >> 24) as u8
+    }
+
+    pub fn flag(&mut self) -> bool {
+        self.below(2) == 1
+    }
+
+    pub fn bytes(&mut self, length: usize) -> Vec<u8> {
+        (0..length).map(|_| self.byte()).collect()
+    }
+}
+
+/// Feeds `bytes` in pieces of `size`; gives the frames handed out.
+pub fn feed_in_pieces(stream: &mut Stream, bytes: &[u8], size: usize) -> Vec<u8> {
+    let mut frames = Vec::new();
+    for piece in bytes.chunks(size) {
+        let mut output = [0xEE; MOST];
+        let count = stream.feed(piece, &mut output).unwrap();
+        frames.extend_from_slice(&output[..512 * count]);
+        assert!(output[512 * count..].iter().all(|&cell| cell == 0xEE));
+        assert!(stream.sound());
+    }
+    frames
+}
+
+/// A refusal's number and a change to a good call that brings it about.
+pub type Fault<C> = (u8, fn(&mut C));
+
+/// Tries every set of the faults on a good call, applied in the order listed:
+/// the least number is the answer and the call is left as it was.
+pub fn check_every_set<C>(good: &C, run: fn(&mut C) -> Option<u8>, faults: &[Fault<C>])
+where
+    C: Clone + PartialEq + Debug,
+{
+    assert_eq!(run(&mut good.clone()), None);
+    for set in 1..1_usize << faults.len() {
+        let chosen = || (0..faults.len()).filter(|i| set >> i & 1 == 1);
+        let mut call = good.clone();
+        chosen().for_each(|i| (faults[i].1)(&mut call));
+        let before = call.clone();
+        let least = chosen().map(|i| faults[i].0).min();
+        assert_eq!(run(&mut call), least, "faults {set:b}");
+        assert!(call == before, "faults {set:b} changed something");
+    }
+}

@@ -1,0 +1,271 @@
+//! Every refusal of every call, in every company, and nothing changed by it.
+
+mod common;
+
+use common::*;
+use reference::*;
+
+#[derive(Clone, Debug, PartialEq)]
+struct RadioCall {
+    receivers: usize,
+    word: usize,
+    frame: Vec<u8>,
+    iq: Vec<i32>,
+    mic: Vec<i16>,
+    status: Status,
+}
+
+/// A call with slices of just the needed length; three receivers have padding.
+fn good_radio_call() -> RadioCall {
+    RadioCall {
+        receivers: 3,
+        word: 4,
+        frame: frame([0x27, 0xFF, 0xFF, 0xFF, 0xFF]).to_vec(),
+        iq: vec![77; 150],
+        mic: vec![77; 25],
+        status: Status::fresh(),
+    }
+}
+
+fn run_radio_read(call: &mut RadioCall) -> Option<u8> {
+    let RadioCall { frame, iq, mic, .. } = call;
+    radio_read(frame, call.receivers, iq, mic, &mut call.status).err()
+}
+
+fn run_radio_write(call: &mut RadioCall) -> Option<u8> {
+    let RadioCall {
+        status, iq, mic, ..
+    } = call;
+    radio_write(status, call.word, call.receivers, iq, mic, &mut call.frame).err()
+}
+
+#[test]
+fn radio_read_refuses_in_order() {
+    let faults: [Fault<RadioCall>; 11] = [
+        (7, |c| c.frame[508] = 1),
+        (7, |c| c.frame[511] = 0x80),
+        (6, |c| c.frame[0] = 0x7E),
+        (6, |c| c.frame[1] = 0xFF),
+        (6, |c| c.frame[2] = 0),
+        (4, |c| c.iq.truncate(149)),
+        (4, |c| c.mic.truncate(24)),
+        (3, |c| c.frame.truncate(511)),
+        (3, |c| c.frame.resize(513, 0)),
+        (2, |c| c.receivers = 0),
+        (2, |c| c.receivers = 9),
+    ];
+    check_every_set(&good_radio_call(), run_radio_read, &faults);
+}
+
+#[test]
+fn radio_write_refuses_in_order() {
+    let faults: [Fault<RadioCall>; 12] = [
+        (9, |c| c.iq[0] = 8_388_608),
+        (9, |c| c.iq[149] = -8_388_609),
+        (9, |c| c.status.versions[0] = 128),
+        (9, |c| c.status.versions[3] = 255),
+        (9, |c| c.word = 5),
+        (9, |c| c.word = usize::MAX),
+        (4, |c| c.iq.truncate(149)),
+        (4, |c| c.mic.truncate(24)),
+        (3, |c| c.frame.truncate(511)),
+        (3, |c| c.frame.resize(513, 0)),
+        (2, |c| c.receivers = 0),
+        (2, |c| c.receivers = 9),
+    ];
+    for word in 0..=4 {
+        let mut good = good_radio_call();
+        good.word = word;
+        check_every_set(&good, run_radio_write, &faults);
+    }
+}
+
+#[test]
+fn radio_read_refuses_every_padding_byte() {
+    for (receivers, _, _, padding) in TABLE {
+        for place in 512 - padding..512 {
+            let mut frame = frame([0; 5]);
+            frame[place] = 1;
+            let (mut iq, mut mic, mut status) = ([3; 200], [3; 100], Status::fresh());
+            let answer = radio_read(&frame, receivers, &mut iq, &mut mic, &mut status);
+            assert_eq!(answer, Err(7));
+            assert_eq!((iq, mic), ([3; 200], [3; 100]));
+        }
+    }
+}
+
+#[test]
+fn radio_write_needs_no_sync_and_no_zero_padding_before() {
+    let mut call = good_radio_call();
+    call.frame = vec![0xEE; 512];
+    assert_eq!(run_radio_write(&mut call), None);
+    assert_eq!(call.frame[..3], SYNC);
+    assert_eq!(call.frame[508..], [0; 4]);
+}
+
+#[test]
+fn samples_past_the_needed_are_not_tested() {
+    let mut call = good_radio_call();
+    call.iq.push(i32::MAX);
+    assert_eq!(run_radio_write(&mut call), None);
+}
+
+#[test]
+fn samples_at_the_limits_are_accepted() {
+    let mut call = good_radio_call();
+    (call.iq[0], call.iq[149]) = (8_388_607, -8_388_608);
+    call.status.versions = [127; 4];
+    assert_eq!(run_radio_write(&mut call), None);
+    assert_eq!(call.frame[8..11], [0x7F, 0xFF, 0xFF]);
+    assert_eq!(call.frame[503..506], [0x80, 0, 0]);
+}
+
+#[derive(Clone, Debug, PartialEq)]
+struct HostCall {
+    builder: Builder,
+    frame: Vec<u8>,
+    audio: Vec<i16>,
+}
+
+fn good_host_call(control: [u8; 5], turn: u8) -> HostCall {
+    let host = Host::fresh();
+    HostCall {
+        builder: Builder { host, turn },
+        frame: frame(control).to_vec(),
+        audio: vec![77; 252],
+    }
+}
+
+fn run_host_read(call: &mut HostCall) -> Option<u8> {
+    host_read(&call.frame, &mut call.audio, &mut call.builder.host).err()
+}
+
+fn run_build(call: &mut HostCall) -> Option<u8> {
+    build(&mut call.builder, &call.audio, &mut call.frame).err()
+}
+
+#[test]
+fn host_read_refuses_in_order() {
+    let word_0: [Fault<HostCall>; 8] = [
+        (8, |c| c.frame[4] = 0x0C),
+        (8, |c| c.frame[7] = 0x03),
+        (6, |c| c.frame[0] = 0x7E),
+        (6, |c| c.frame[1] = 0xFF),
+        (6, |c| c.frame[2] = 0),
+        (4, |c| c.audio.truncate(251)),
+        (3, |c| c.frame.truncate(511)),
+        (3, |c| c.frame.resize(513, 0)),
+    ];
+    let good = good_host_call([0x01, 0xF3, 0xFF, 0xFF, 0xFC], 0);
+    check_every_set(&good, run_host_read, &word_0);
+    let mut word_9 = word_0;
+    word_9[0] = (8, |c| c.frame[7] |= 0x80);
+    word_9[1] = (8, |c| c.frame[7] = 0x80);
+    let good = good_host_call([0x13, 0xFF, 0xFF, 0xFF, 0x7F], 0);
+    check_every_set(&good, run_host_read, &word_9);
+}
+
+#[test]
+fn unassigned_codes_are_refused_in_their_own_word_only() {
+    for address in (1..=127).filter(|&address| address != 9) {
+        let control = [address << 1, 0xFF, 0xFF, 0xFF, 0xFF];
+        assert_eq!(run_host_read(&mut good_host_call(control, 0)), None);
+    }
+    for code in 0..=3 {
+        let refusal = (code == 3).then_some(8);
+        let source = [0, code << 2, 0, 0, 0];
+        assert_eq!(run_host_read(&mut good_host_call(source, 0)), refusal);
+        let relay = [0, 0, 0, 0, code];
+        assert_eq!(run_host_read(&mut good_host_call(relay, 0)), refusal);
+    }
+}
+
+#[test]
+fn build_refuses_in_order() {
+    let faults: [Fault<HostCall>; 8] = [
+        (9, |c| c.builder.host.outputs = 128),
+        (9, |c| c.builder.host.receivers = 0),
+        (9, |c| c.builder.host.receivers = 9),
+        (4, |c| c.audio.truncate(251)),
+        (3, |c| c.frame.truncate(511)),
+        (3, |c| c.frame.resize(513, 0)),
+        (1, |c| c.builder.turn = 10),
+        (1, |c| c.builder.turn = 255),
+    ];
+    for turn in 0..=9 {
+        check_every_set(&good_host_call([0; 5], turn), run_build, &faults);
+    }
+}
+
+/// Records that the scope's named choices cannot hold, but codes can.
+#[test]
+fn build_refuses_codes_that_name_no_choice() {
+    let faults: [Fault<HostCall>; 10] = [
+        (9, |c| c.builder.host.speed = 4),
+        (9, |c| c.builder.host.source122 = 2),
+        (9, |c| c.builder.host.boards = 4),
+        (9, |c| c.builder.host.microphone = 2),
+        (9, |c| c.builder.host.attenuator = 4),
+        (9, |c| c.builder.host.antenna = 4),
+        (8, |c| c.builder.host.source10 = 3),
+        (8, |c| c.builder.host.relay = 3),
+        (4, |c| c.audio.truncate(251)),
+        (1, |c| c.builder.turn = 10),
+    ];
+    for turn in [0, 9] {
+        check_every_set(&good_host_call([0; 5], turn), run_build, &faults);
+    }
+}
+
+#[derive(Clone, Debug, PartialEq)]
+struct StreamCall {
+    stream: Stream,
+    piece: Vec<u8>,
+    output: Vec<u8>,
+}
+
+fn good_stream_call() -> StreamCall {
+    let mut stream = Stream::fresh();
+    stream.feed(&[5; 600], &mut [0; MOST]).unwrap();
+    stream.feed(&[5; 20], &mut [0; MOST]).unwrap();
+    StreamCall {
+        stream,
+        piece: vec![0x7F; 4096],
+        output: vec![0xEE; 4096],
+    }
+}
+
+fn run_feed(call: &mut StreamCall) -> Option<u8> {
+    call.stream.feed(&call.piece, &mut call.output).err()
+}
+
+#[test]
+fn feed_refuses_in_order() {
+    let faults: [Fault<StreamCall>; 8] = [
+        (5, |c| {
+            c.stream.skipped += (1 << 48) - 4095 - c.stream.total;
+            c.stream.total = (1 << 48) - 4095;
+        }),
+        (4, |c| c.output.truncate(4095)),
+        (3, |c| c.piece.push(0)),
+        (1, |c| c.stream.total += 1),
+        (1, |c| c.stream.frames = 1 << 55),
+        (1, |c| c.stream.skipped = u64::MAX),
+        (1, |c| c.stream.count = 515),
+        (1, |c| c.stream.count = usize::MAX),
+    ];
+    check_every_set(&good_stream_call(), run_feed, &faults);
+}
+
+#[test]
+fn feed_refuses_a_cell_past_the_held_bytes() {
+    let mut call = good_stream_call();
+    call.stream = Stream::fresh();
+    for cell in [0, 513] {
+        call.stream.held = [0; 514];
+        call.stream.held[cell] = 1;
+        let before = call.clone();
+        assert_eq!(run_feed(&mut call), Some(1));
+        assert_eq!(call, before);
+    }
+}

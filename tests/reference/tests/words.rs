@@ -1,0 +1,207 @@
+//! Every listed word, bit by bit, both ways.
+
+mod common;
+
+use common::*;
+use reference::*;
+
+/// The status after `change` to a fresh one.
+fn status_with(change: fn(&mut Status)) -> Status {
+    let mut status = Status::fresh();
+    change(&mut status);
+    status
+}
+
+/// The host record after `change` to a fresh one.
+fn host_with(change: fn(&mut Host)) -> Host {
+    let mut host = Host::fresh();
+    change(&mut host);
+    host
+}
+
+type RadioCase = ([u8; 5], fn(&mut Status));
+
+/// C0 to C4, and what they change in a fresh status.
+const RADIO_CASES: [RadioCase; 24] = [
+    ([0x04, 0, 0, 0, 0], |s| s.dot = true),
+    ([0x02, 0, 0, 0, 0], |s| s.dash = true),
+    ([0x01, 0, 0, 0, 0], |s| s.ptt = true),
+    ([0, 0x01, 0, 0, 0], |s| s.overflow[0] = true),
+    ([0, 0x02, 0, 0, 0], |s| s.io[0] = false),
+    ([0, 0x04, 0, 0, 0], |s| s.io[1] = false),
+    ([0, 0x08, 0, 0, 0], |s| s.io[2] = false),
+    ([0, 0x10, 0, 0, 0], |s| s.io[3] = false),
+    ([0, 0x20, 0, 0, 0], |s| s.pll = true),
+    ([0, 0x40, 0, 0, 0], |s| s.toggle = true),
+    ([0, 0, 0x81, 0, 0], |s| s.mercury = 0x81),
+    ([0, 0, 0, 0x82, 0], |s| s.penelope = 0x82),
+    ([0, 0, 0, 0, 0x83], |s| s.main = 0x83),
+    ([0x08, 0x12, 0x34, 0, 0], |s| s.ain5 = 0x1234),
+    ([0x08, 0, 0, 0x12, 0x34], |s| s.ain1 = 0x1234),
+    ([0x10, 0xFE, 0xDC, 0, 0], |s| s.ain2 = 0xFEDC),
+    ([0x10, 0, 0, 0xFE, 0xDC], |s| s.ain3 = 0xFEDC),
+    ([0x18, 0x12, 0x34, 0, 0], |s| s.ain4 = 0x1234),
+    ([0x18, 0, 0, 0x12, 0x34], |s| s.ain6 = 0x1234),
+    ([0x20, 0x01, 0, 0, 0], |s| s.overflow[0] = true),
+    ([0x20, 0xFE, 0, 0, 0], |s| s.versions[0] = 127),
+    ([0x20, 0, 0x03, 0, 0], |s| {
+        (s.overflow[1], s.versions[1]) = (true, 1)
+    }),
+    ([0x20, 0, 0, 0x80, 0], |s| s.versions[2] = 64),
+    ([0x20, 0, 0, 0, 0x01], |s| s.overflow[3] = true),
+];
+
+#[test]
+fn radio_words_set_their_fields() {
+    for (control, change) in RADIO_CASES {
+        let (status, address) = radio_word(control);
+        assert_eq!(status, status_with(change), "{control:02X?}");
+        let mut written = [0xEE; 512];
+        let word = usize::from(address);
+        radio_write(&status, word, 1, &[0; 126], &[0; 63], &mut written).unwrap();
+        assert_eq!(written, frame(control));
+    }
+}
+
+#[test]
+fn word_zero_bit_7_is_ignored_and_written_as_zero() {
+    let (status, _) = radio_word([0, 0x80, 0, 0, 0]);
+    assert_eq!(status, Status::fresh());
+}
+
+#[test]
+fn unlisted_radio_words_set_the_keys_only() {
+    for address in 5..=31 {
+        let (status, read) = radio_word([address << 3 | 7, 0xFF, 0xFF, 0xFF, 0xFF]);
+        assert_eq!(read, address);
+        let keys = status_with(|s| (s.dot, s.dash, s.ptt) = (true, true, true));
+        assert_eq!(status, keys);
+    }
+}
+
+#[test]
+fn all_zero_words_give_a_fresh_status() {
+    let mut status = Status::fresh();
+    for address in 0..=4 {
+        let ones = [address << 3 | 7, 0xFF, 0xFF, 0xFF, 0xFF];
+        read_radio_into(&mut status, &frame(ones)).unwrap();
+    }
+    assert_eq!((status.ain6, status.versions), (0xFFFF, [127; 4]));
+    for address in 0..=4 {
+        read_radio_into(&mut status, &frame([address << 3, 0, 0, 0, 0])).unwrap();
+    }
+    assert_eq!(status, Status::fresh());
+}
+
+/// The host word that `host` has at `turn`.
+fn built(host: Host, turn: u8) -> [u8; 512] {
+    let mut frame = [0xEE; 512];
+    let mut builder = Builder { host, turn };
+    build(&mut builder, &[0; 252], &mut frame).unwrap();
+    frame
+}
+
+type HostCase = ([u8; 5], fn(&mut Host));
+
+/// C0 to C4 of word 0, and what they change in a fresh host record.
+const SETTINGS_CASES: [HostCase; 26] = [
+    ([1, 0, 0, 0, 0], |h| h.mox = true),
+    ([0, 0x01, 0, 0, 0], |h| h.speed = 1),
+    ([0, 0x03, 0, 0, 0], |h| h.speed = 3),
+    ([0, 0x04, 0, 0, 0], |h| h.source10 = 1),
+    ([0, 0x08, 0, 0, 0], |h| h.source10 = 2),
+    ([0, 0x10, 0, 0, 0], |h| h.source122 = 1),
+    ([0, 0x20, 0, 0, 0], |h| h.boards = 1),
+    ([0, 0x60, 0, 0, 0], |h| h.boards = 3),
+    ([0, 0x80, 0, 0, 0], |h| h.microphone = 1),
+    ([0, 0, 0x01, 0, 0], |h| h.class_e = true),
+    ([0, 0, 0xFE, 0, 0], |h| h.outputs = 127),
+    ([0, 0, 0, 0x02, 0], |h| h.attenuator = 2),
+    ([0, 0, 0, 0x04, 0], |h| h.preamp = true),
+    ([0, 0, 0, 0x08, 0], |h| h.dither = true),
+    ([0, 0, 0, 0x10, 0], |h| h.random = true),
+    ([0, 0, 0, 0x40, 0], |h| h.antenna = 2),
+    ([0, 0, 0, 0x60, 0], |h| h.antenna = 3),
+    ([0, 0, 0, 0x80, 0], |h| h.rx_out = true),
+    ([0, 0, 0, 0, 0x01], |h| h.relay = 1),
+    ([0, 0, 0, 0, 0x02], |h| h.relay = 2),
+    ([0, 0, 0, 0, 0x04], |h| h.duplex = true),
+    ([0, 0, 0, 0, 0x08], |h| h.receivers = 2),
+    ([0, 0, 0, 0, 0x38], |h| h.receivers = 8),
+    ([0, 0, 0, 0, 0x40], |h| h.timestamp = true),
+    ([0, 0, 0, 0, 0x80], |h| h.common = true),
+    ([0, 0, 0, 0, 0], |_| {}),
+];
+
+#[test]
+fn host_settings_set_their_fields() {
+    for (control, change) in SETTINGS_CASES {
+        let (host, _) = host_word(control);
+        assert_eq!(host, host_with(change), "{control:02X?}");
+        assert_eq!(built(host, 0), frame(control));
+    }
+}
+
+#[test]
+fn host_frequencies_go_to_their_own_receiver() {
+    let hertz = [0x12, 0x34, 0x56, 0x78];
+    for word in 1..=8_u8 {
+        let [a, b, c, d] = hertz;
+        let (host, _) = host_word([word << 1, a, b, c, d]);
+        let mut expected = Host::fresh();
+        match word {
+            1 => expected.transmitter = 305_419_896,
+            _ => expected.frequencies[usize::from(word) - 2] = 305_419_896,
+        }
+        assert_eq!(host, expected);
+        assert_eq!(built(host, word), frame([word << 1, a, b, c, d]));
+    }
+}
+
+#[test]
+fn host_filters_set_their_fields() {
+    let (host, _) = host_word([0x12, 0xAB, 0, 0, 0]);
+    assert_eq!(host, host_with(|h| h.drive = 0xAB));
+    for place in 0..8 {
+        let (controls, _) = host_word([0x12, 0, 1 << place, 0, 0]);
+        let (high_pass, _) = host_word([0x12, 0, 0, 1 << place, 0]);
+        let mut expected = Host::fresh();
+        expected.controls[place] = true;
+        assert_eq!(controls, expected);
+        assert_eq!(built(controls, 9), frame([0x12, 0, 1 << place, 0, 0]));
+        let mut expected = Host::fresh();
+        expected.high_pass[place] = true;
+        assert_eq!(high_pass, expected);
+        assert_eq!(built(high_pass, 9), frame([0x12, 0, 0, 1 << place, 0]));
+    }
+    for place in 0..7 {
+        let (low_pass, _) = host_word([0x12, 0, 0, 0, 1 << place]);
+        let mut expected = Host::fresh();
+        expected.low_pass[place] = true;
+        assert_eq!(low_pass, expected);
+        assert_eq!(built(low_pass, 9), frame([0x12, 0, 0, 0, 1 << place]));
+    }
+}
+
+#[test]
+fn unlisted_host_words_set_mox_only() {
+    for address in 10..=127 {
+        let (host, read) = host_word([address << 1 | 1, 0xFF, 0xFF, 0xFF, 0xFF]);
+        assert_eq!(read, address);
+        assert_eq!(host, host_with(|h| h.mox = true));
+    }
+}
+
+#[test]
+fn all_zero_words_give_a_fresh_host() {
+    let mut host = Host::fresh();
+    let mut read = |control| host_read(&frame(control), &mut [0; 252], &mut host).unwrap();
+    read([0x01, 0xFB, 0xFF, 0xFF, 0xFE]);
+    for word in 1..=9 {
+        read([word << 1 | 1, 0xFF, 0xFF, 0xFF, 0x7F]);
+    }
+    for word in 0..=9 {
+        read([word << 1, 0, 0, 0, 0]);
+    }
+    assert_eq!(host, Host::fresh());
+}
