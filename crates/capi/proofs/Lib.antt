@@ -7,3 +7,5 @@ pub mod Cases
 pub mod RadioCases
 pub mod HostCases
 pub mod StreamCases
+pub mod Faithful
+pub mod Settled

@@ -1,7 +1,7 @@
 -- Cells tested one after another against the most that each may hold: how far the test is, and what it says at its end.
 -- Assumes nothing.
 use mathlib.Core.Path.{_≡_, refl, sym, ap, ap₂, _∙_}
-use mathlib.Core.Bool.{Bool, true, false, _&&_, and-assoc}
+use mathlib.Core.Bool.{Bool, true, false, _&&_, and-assoc, and-true, and-false}
 use mathlib.Core.List.{List, [], _∷_}
 use Prim.Native.Nat.{ℕ, _+_, _<_, _≤_}
 use native.Mathlib.Numerals.{add-one}
@@ -21,10 +21,6 @@ pub too-few : (most cells : List ℕ) → length cells < length most → within 
 too-few [] cells h = absurd (omega arith)
 too-few (m ∷ most) [] h = refl
 too-few (m ∷ most) (c ∷ cells) h = rw (too-few most cells (omega arith)) (and-false (leb c m))
-  where
-    and-false : (b : Bool) → (b && false) ≡ false
-    and-false true = refl
-    and-false false = refl
 
 module _ (most cells : List ℕ) where
   pub none-tested : length most ≤ length cells → Tested most cells true 0
@@ -46,7 +42,3 @@ module _ (most cells : List ℕ) where
 
     pub all-tested : length most ≤ i → so-far ≡ within most cells
     all-tested end = sym (and-true so-far) ∙ sym (ap (λ ms. so-far && within ms (drop i cells)) (drop-of-length-le most end)) ∙ tested .rest
-      where
-        and-true : (b : Bool) → (b && true) ≡ b
-        and-true true = refl
-        and-true false = refl

@@ -1,5 +1,5 @@
 -- Any two outcomes that a call's contract admits coincide. Assumes nothing.
-use mathlib.Core.Path.{_≡_, sym, _∙_}
+use mathlib.Core.Path.{_≡_}
 use mathlib.Core.Bool.{Bool}
 use mathlib.Core.List.{List}
 use Prim.Native.Nat.{ℕ}
@@ -8,9 +8,7 @@ use Rattle.hexline.specs.Printed.{Written, rowOf}
 use Rattle.hexline.specs.Reader.{freshReader, takeOf, endOf}
 use Rattle.hexline.specs.declared.Reader.{Reader}
 use Rattle.hexline.specs.declared.Taken.{Taken}
-
-settled : {A : Type 0} {x y z : A} → x ≡ z → y ≡ z → x ≡ y
-settled p q = p ∙ sym q
+use Rattle.wire.proofs.Settled.{settled}
 
 pub fresh-settled : (r s : Reader) → r ≡ freshReader → s ≡ freshReader → r ≡ s
 fresh-settled r s = settled

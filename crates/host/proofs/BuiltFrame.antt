@@ -3,27 +3,23 @@ use mathlib.Core.Path.{_≡_, refl, ap, subst⁻¹, _∙_}
 use mathlib.Core.List.{List}
 use Prim.Native.Nat.{ℕ, _<_, _≤_}
 use native.Mathlib.Omega.{arith}
-use lib.IntN.{ℤ, pos}
-use lib.ListN.{length, getD, length-append, List·getD-append}
+use lib.IntN.{ℤ}
+use lib.ListN.{length, length-append, List·getD-append}
 use lib.Seq.{drop-at}
-use Rattle.wire.proofs.Lists.{length-tabs}
 use Rattle.host.proofs.BuildCases.{Ready}
 use Rattle.host.proofs.Saying.{length-said, length-head}
+use Rattle.host.proofs.Slots.{length-payload}
 use Rattle.host.proofs.Told.{Says}
 use Rattle.host.proofs.Assigned.{Assigned, built-assigned, assigned-none}
 use Rattle.host.proofs.BitTrip.{c0-address, c0-mox}
 use Rattle.host.proofs.WordTrip.{Held, controlFrom, word-back}
 use Rattle.host.specs.Build.{frameOf}
 use Rattle.host.specs.Record.{Same}
-use Rattle.host.specs.Samples.{standing, pairBytes, payloadOf, payloadFrom}
+use Rattle.host.specs.Samples.{payloadOf, payloadFrom}
 use Rattle.host.specs.Sent.{c0Of, said, headOf}
 use Rattle.host.specs.Words.{controlOf, address, heard}
 use Rattle.host.specs.declared.Builder.{Builder}
 use Rattle.host.specs.declared.words.Control.{Control}
-
-pub length-payload : (audio : List ℤ) → length (payloadFrom audio) ≡ 504
-unfolding payloadFrom
-length-payload audio = length-tabs 2 (λ m. pairBytes (getD audio (standing m) (pos 0))) 252 (λ t h. refl)
 
 module _ (b : Builder) (audio : List ℤ) where
   pub control-built : controlOf (frameOf b audio) ≡ controlFrom (c0Of (b .turn) (b .host .mox)) (said (b .turn) (b .host))

@@ -8,7 +8,7 @@ use lib.ListN.{length, getD-replicate}
 use Rattle.wire.specs.Fields.{bit, on}
 use Rattle.wire.specs.Numbers.{Bytes}
 use Rattle.host.proofs.Carries.{own-entry}
-use Rattle.wire.proofs.Counted.{below}
+use Rattle.wire.proofs.Everywhere.{below}
 use Rattle.host.proofs.ReadCases.{Good}
 use Rattle.host.proofs.Told.{Says, Each, each, among, wholly-told}
 use Rattle.host.specs.Read.{Call, reads}

@@ -11,14 +11,14 @@ use lib.ListN.{length, getD, take, drop, length-drop, take-append-drop}
 use lib.Seq.{getD-drop}
 use Rattle.wire.proofs.Cases.{by-test, both-true}
 use Rattle.wire.proofs.Lists.{tab-getD, length-over}
-use Rattle.wire.specs.Numbers.{Bytes}
+use Rattle.wire.specs.Numbers.{Bytes, Samples16}
 use Rattle.wire.specs.Sync.{syncAt}
 use Rattle.wire.specs.declared.Answer.the-variants.{Accepted}
 use Rattle.host.proofs.BuildCases.{Ready, accepted-ready, ready-accepted, build-answer, build-accepted}
 use Rattle.host.proofs.BuiltFrame.{payload-built, address-built, built-says}
 use Rattle.host.proofs.Carries.{mox-follows, others-kept}
 use Rattle.host.proofs.ReadCases.{Good, accepted-good, good-accepted, read-answer, read-accepted}
-use Rattle.host.proofs.SampleTrip.{Sixteen, numbers-back, payload-back}
+use Rattle.host.proofs.SampleTrip.{numbers-back, payload-back}
 use Rattle.host.proofs.Assigned.{assigned}
 use Rattle.host.proofs.BitTrip.{c0-again}
 use Rattle.host.proofs.ByteTrip.{ByteControl, fourBytes, bytes-again}
@@ -48,7 +48,7 @@ module _ (b : Builder) (audio : List ℤ) (frame : List ℕ) (answered : buildOf
   passed = accepted-ready b (length audio) (length frame) (sym (build-answer b audio frame) ∙ answered)
 
   -- of the definition's outcome, for a frame as it was built
-  came-back : Held (b .host) → Sixteen audio → (out : List ℤ) (g : Host) → 252 ≤ length out → Seven g → CameBack b audio out g (reading.accepted (frameOf b audio) out g)
+  came-back : Held (b .host) → Samples16 audio → (out : List ℤ) (g : Host) → 252 ≤ length out → Seven g → CameBack b audio out g (reading.accepted (frameOf b audio) out g)
   came-back held sixteen out g room seven =
       let says = built-says b audio (length audio) (length frame) passed out room held in
       let word = address-built b audio (length audio) (length frame) passed in
@@ -61,7 +61,7 @@ module _ (b : Builder) (audio : List ℤ) (frame : List ℕ) (answered : buildOf
         audio = ap (λ p. numbers p out) (payload-built b audio) ∙ numbers-back audio out sixteen (passed .fits);
       }
 
-  pub read-built : Held (b .host) → Sixteen audio → (out : List ℤ) (g : Host) → 252 ≤ length out → Seven g → CameBack b audio out g (readOf (buildOf b audio frame .frame) out g)
+  pub read-built : Held (b .host) → Samples16 audio → (out : List ℤ) (g : Host) → 252 ≤ length out → Seven g → CameBack b audio out g (readOf (buildOf b audio frame .frame) out g)
   read-built held sixteen out g room seven =
       let says = built-says b audio (length audio) (length frame) passed out room held in
       rw (build-accepted b audio frame (sym (build-answer b audio frame) ∙ answered), read-accepted (frameOf b audio) out g (good-accepted (frameOf b audio) (length out) (says .good)))

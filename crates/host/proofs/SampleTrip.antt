@@ -7,32 +7,24 @@ use native.Mathlib.Omega.{arith}
 use lib.IntN.{ℤ, pos}
 use lib.ListN.{length, getD, take, drop, drop-of-length-le, List·getD-append}
 use lib.Seq.{drop-cons}
-use lib.Signed.{mag}
 use Rattle.wire.proofs.Bytes.{sample-back, bytes-back}
 use Rattle.wire.proofs.Lists.{tab-same, tab-getD, length-tab, getD-tab, tabs-same, getD-tabs, parts}
 use Rattle.wire.specs.Lists.{tab, tabs, over}
-use Rattle.wire.specs.Numbers.{be, signed, Bytes}
-use Rattle.host.proofs.Slots.{pairOf-fits, standing-in}
+use Rattle.wire.specs.Numbers.{be, signed, Bytes, Samples16}
+use Rattle.host.proofs.Slots.{at-four, pairOf-fits, standing-in}
 use Rattle.host.specs.Samples.{pairOf, standing, pair, number, numbers, pairBytes, payloadFrom}
-
--- every number of the slice is one of 16 bits, as the language holds it
-abbrev pub Sixteen : List ℤ → Type 0
-Sixteen audio = (k : ℕ) → mag (getD audio k (pos 0)) < 2 ^ 15
 
 -- who stands in whose place is mutual
 pairOf-twice : (j : ℕ) → j < 4 → pairOf (pairOf j) ≡ j
-pairOf-twice zero h = refl
-pairOf-twice (suc zero) h = refl
-pairOf-twice (suc (suc zero)) h = refl
-pairOf-twice (suc (suc (suc j))) h = let last : j ≡ 0 = omega arith in rw last
+pairOf-twice = at-four (λ j. pairOf (pairOf j) ≡ j) refl refl refl refl
 
 standing-twice : (k : ℕ) → standing (standing k) ≡ k
 standing-twice k =
     let inside : k % 4 < 4 = omega arith in
-    standing-in (k / 4) (pairOf (k % 4)) (pairOf-fits (k % 4)) ∙ ap (λ j. k / 4 * 4 + j) (pairOf-twice (k % 4) inside) ∙ omega arith
+    standing-in (k / 4) (pairOf (k % 4)) (pairOf-fits (k % 4) inside) ∙ ap (λ j. k / 4 * 4 + j) (pairOf-twice (k % 4) inside) ∙ omega arith
 
 standing-fits : (k : ℕ) → k < 252 → standing k < 252
-standing-fits k h = let inside = pairOf-fits (k % 4) in omega arith
+standing-fits k h = let inside = pairOf-fits (k % 4) (omega arith) in omega arith
 
 -- pair m of a payload that was written
 pair-written : (audio : List ℤ) (m : ℕ) → m < 252 → pair (payloadFrom audio) m ≡ signed 16 (be (pairBytes (getD audio (standing m) (pos 0))))
@@ -43,14 +35,14 @@ pair-written audio m h =
     (ap (λ i. getD (tabs 252 f) i 0) (sym (add-zero (m * 2))) ∙ getD-tabs 2 f 252 m 0 0 (λ t g. refl) h (omega arith))
     (getD-tabs 2 f 252 m 1 0 (λ t g. refl) h (omega arith))
 
-pub number-back : (audio : List ℤ) → Sixteen audio → (k : ℕ) → k < 252 → number (payloadFrom audio) k ≡ getD audio k (pos 0)
+pub number-back : (audio : List ℤ) → Samples16 audio → (k : ℕ) → k < 252 → number (payloadFrom audio) k ≡ getD audio k (pos 0)
 number-back audio fits k h =
     pair-written audio (standing k) (standing-fits k h)
     ∙ ap (λ n. signed 16 (be (pairBytes (getD audio n (pos 0))))) (standing-twice k)
     ∙ sample-back 2 (2 ^ 15) refl (getD audio k (pos 0)) (fits k)
 
 -- the numbers that were written come back, in front of what the reader's slice had
-pub numbers-back : (audio out : List ℤ) → Sixteen audio → 252 ≤ length audio → numbers (payloadFrom audio) out ≡ take 252 audio ++ drop 252 out
+pub numbers-back : (audio out : List ℤ) → Samples16 audio → 252 ≤ length audio → numbers (payloadFrom audio) out ≡ take 252 audio ++ drop 252 out
 unfolding numbers
 numbers-back audio out fits long =
     ap (λ l. l ++ drop 252 out)

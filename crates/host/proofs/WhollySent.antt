@@ -8,7 +8,7 @@ use lib.ListN.{length}
 use Rattle.wire.specs.declared.Answer.the-variants.{Accepted}
 use Rattle.host.proofs.BuildCases.{Ready, accepted-ready, build-answer, build-accepted}
 use Rattle.host.proofs.BuiltFrame.{built-says}
-use Rattle.wire.proofs.Counted.{all-below, below}
+use Rattle.wire.proofs.Everywhere.{all-below, below}
 use Rattle.host.proofs.Told.{Says, Each, among, wholly-told}
 use Rattle.host.proofs.WordTrip.{Held}
 use Rattle.host.specs.Build.{buildOf, accepted, frameOf, moved, nextTurn}

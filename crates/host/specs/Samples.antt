@@ -35,12 +35,9 @@ payloadOf f = drop 8 f
 unfoldable pub numbers : List ℕ → List ℤ → List ℤ
 numbers payload audio = over 252 (number payload) audio
 
--- The way back: the bytes of a number, of a slot's four in the caller's order, and of a slice's first 252.
+-- The way back: the bytes of a number, and of a slice's first 252.
 abbrev pub pairBytes : ℤ → List ℕ
 pairBytes x = bytesOf 2 (unsigned 16 x)
-
-abbrev pub slotBytes : ℤ → ℤ → ℤ → ℤ → List ℕ
-slotBytes l r i q = tabs 4 (λ m. pairBytes (four l r i q (pairOf m)))
 
 unfoldable pub payloadFrom : List ℤ → List ℕ
 payloadFrom audio = tabs 252 (λ m. pairBytes (getD audio (standing m) (pos 0)))

@@ -5,9 +5,9 @@
 // take what they are given: what cannot be read or built is refused by its number, and a refusal
 // changes nothing.
 pub mod record;
-pub mod samples;
-pub mod sent;
-pub mod words;
+mod samples;
+mod sent;
+mod words;
 
 ghost use mathlib.Core.Path.{_≡_};
 ghost use Prim.Native.Nat.{_≤_};
@@ -16,7 +16,7 @@ ghost use Rattle.host.specs.Build.{refusals as unfit, gave as built, bui
 ghost use Rattle.host.specs.Read.{refusals, gave, readOf};
 use record::Host;
 use samples::read_slots;
-use samples::write_slots;
+use samples::write_numbers;
 use sent::put_head;
 use wire::Answer;
 use wire::number;
@@ -105,7 +105,7 @@ impl Builder {
             };
         }
         put_head(frame, turn, host);
-        write_slots(&mut frame[8..], audio);
+        write_numbers(&mut frame[8..], audio);
         Built {
             answer,
             builder: Builder {

@@ -10,7 +10,7 @@ use lib.Seq.{drop-at}
 use Rattle.wire.specs.Every.{allZero}
 use Rattle.wire.specs.Lists.{tabs}
 use Rattle.wire.specs.Sync.{syncAt}
-use Rattle.wire.proofs.Counted.{zeros}
+use Rattle.wire.proofs.Everywhere.{zeros}
 use Rattle.layout.specs.Slots.{slots, padding}
 use Rattle.radio.specs.Read.{byte, payload, word, padded}
 use Rattle.radio.specs.Words.{address, wordAt}

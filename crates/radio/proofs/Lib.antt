@@ -1,6 +1,7 @@
 -- What is proved of frames from the radio, beside each function's own contract.
 pub mod SlotBySlot
 pub mod SlotsLaid
+pub mod Pairs
 pub mod FrameLaid
 pub mod Cases
 pub mod WriteCases

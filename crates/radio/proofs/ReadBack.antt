@@ -8,8 +8,9 @@ use Rattle.wire.specs.Lists.{over}
 use Rattle.wire.specs.declared.Answer.the-variants.{Accepted}
 use Rattle.layout.specs.Slots.{slots, values, padding}
 use Rattle.layout.proofs.Lookup.{range}
+use Rattle.wire.specs.Numbers.{Samples16}
 use Rattle.radio.specs.Read.{answerOf, after, payload, word}
-use Rattle.radio.specs.RoundTrip.{wordFrom, withKeys, Held, Samples16}
+use Rattle.radio.specs.RoundTrip.{wordFrom, withKeys, Held}
 use Rattle.radio.specs.Samples.{iqAt, micAt}
 use Rattle.radio.specs.Words.{applied, carried, keyed, wordAt}
 use Rattle.radio.specs.Write.{keyByte, wordBytes, frameOf}

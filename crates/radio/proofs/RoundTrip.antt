@@ -12,9 +12,9 @@ use lib.ListN.{length, take, drop}
 use Rattle.wire.specs.declared.Answer.the-variants.{Accepted}
 use Rattle.layout.specs.Slots.{slots, values}
 use Rattle.wire.specs.Fields.{bit}
-use Rattle.wire.specs.Numbers.{Bytes}
+use Rattle.wire.specs.Numbers.{Bytes, Samples16}
 use Rattle.radio.specs.Read.{byte, readOf, gave}
-use Rattle.radio.specs.RoundTrip.{wordFrom, withKeys, Held, Samples16}
+use Rattle.radio.specs.RoundTrip.{wordFrom, withKeys, Held}
 use Rattle.radio.specs.Words.{address, carried}
 use Rattle.radio.specs.Write.{versionsFit, frameOf, writeOf, gave as wrote}
 use Rattle.radio.specs.declared.record.Status.{Status}

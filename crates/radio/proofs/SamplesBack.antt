@@ -11,14 +11,13 @@ use lib.Seq.{getD-append-add, getD-take, length-take-le}
 use lib.Signed.{mag}
 use Rattle.wire.specs.Every.{allFit}
 use Rattle.wire.specs.Lists.{tab, tabs}
-use Rattle.wire.specs.Numbers.{fits}
+use Rattle.wire.specs.Numbers.{fits, Samples16}
 use Rattle.wire.proofs.Bytes.{sample-back}
-use Rattle.wire.proofs.Counted.{every-at}
+use Rattle.wire.proofs.Everywhere.{every-at}
 use Rattle.wire.proofs.Lists.{getD-tabs, length-tabs, tab-same, tab-getD}
 use Rattle.wire.proofs.Signed.{fits-mag}
 use Rattle.layout.specs.Slots.{slot, slots, values}
 use Rattle.layout.proofs.Places.{slot-of-value, slot-inside}
-use Rattle.radio.specs.RoundTrip.{Samples16}
 use Rattle.radio.specs.Samples.{sample24, iqAt, micAt}
 use Rattle.radio.specs.Write.{iqBytes, micBytes, slotBytes}
 use Rattle.radio.proofs.SlotsLaid.{slot-long, values-long}

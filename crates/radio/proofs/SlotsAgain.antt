@@ -9,7 +9,7 @@ use lib.IntN.{ℤ, pos}
 use lib.ListN.{length, getD, take, drop, length-drop}
 use lib.Seq.{drop-drop, take-add, take-at, getD-drop}
 use Rattle.wire.specs.Every.{allFit}
-use Rattle.wire.proofs.Counted.{every-tab}
+use Rattle.wire.proofs.Everywhere.{every-tab}
 use Rattle.wire.specs.Lists.{tab, over, tabs}
 use Rattle.wire.specs.Numbers.{be, bytesOf, unsigned, Bytes, fits}
 use Rattle.wire.proofs.Bytes.{bytes-back, be-fits}

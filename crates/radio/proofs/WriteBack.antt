@@ -14,7 +14,7 @@ use Rattle.wire.specs.Lists.{over, tabs}
 use Rattle.wire.specs.Numbers.{Bytes}
 use Rattle.wire.specs.declared.Answer.the-variants.{Accepted}
 use Rattle.wire.proofs.Cases.{both-true}
-use Rattle.wire.proofs.Counted.{zeros-are}
+use Rattle.wire.proofs.Everywhere.{zeros-are}
 use Rattle.wire.proofs.Lists.{tab-getD, length-over}
 use Rattle.layout.specs.Slots.{slot, slots, padding, values}
 use Rattle.layout.proofs.Places.{whole-payload}

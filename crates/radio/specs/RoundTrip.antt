@@ -1,9 +1,5 @@
 -- What document 01's "Reading what was written" and "Writing what was read" speak of. Assumes nothing.
 use Prim.Native.Nat.{ℕ, zero, suc, _^_, _<_}
-use lib.IntN.{ℤ, pos}
-use lib.ListN.{getD}
-use lib.Signed.{mag}
-use mathlib.Core.List.{List}
 use Rattle.radio.specs.Words.{holding}
 use Rattle.radio.specs.declared.record.Status.{Status}
 use Rattle.radio.specs.declared.words.Word.{Word}
@@ -32,7 +28,3 @@ pub record Held (s : Status) : Type 0 where
   pub ain3 : s .reverse .ain3 < 2 ^ 16
   pub ain4 : s .supply .ain4 < 2 ^ 16
   pub ain6 : s .supply .ain6 < 2 ^ 16
-
--- and so are those of a slice of 16-bit numbers
-abbrev pub Samples16 : List ℤ → Type 0
-Samples16 mic = (t : ℕ) → mag (getD mic t (pos 0)) < 2 ^ 15

@@ -38,11 +38,46 @@ pub(crate) fn write_slot(
     ensures { λ r. ⌜ now (frame .exit) ≡ sets (now (frame .entry)) at (slotBytes receivers (now (iq .entry)) (now (mic .entry)) t) ⌝ }
 {
     let count = 2 * receivers;
-    write_values(iq, t * count, count, frame, at);
+    write_receivers(iq, t * count, receivers, frame, at);
     let end = at + 6 * receivers;
     let b = bytes_of_sample16(mic[t]);
     frame[end] = b[0];
     frame[end + 1] = b[1];
+}
+
+// I and Q of each receiver, from a place of `iq` on, over a frame from a place on; by two loops, as in reading.
+pub(crate) fn write_receivers(
+    iq: &[i32],
+    from: usize,
+    receivers: usize,
+    frame: &mut [u8],
+    at: usize,
+)
+    requires { ⌜ (from + 2 * receivers ≤ length (now iq)) × (at + 6 * receivers ≤ length (now frame)) ⌝ }
+    ensures { λ r. ⌜ now (frame .exit) ≡ sets (now (frame .entry)) at (tabs (2 * receivers) (λ j. iqBytes (now (iq .entry)) (from + j))) ⌝ }
+{
+    if receivers < 3 {
+        write_pairs(iq, from, receivers, frame, at);
+    } else {
+        write_values(iq, from, 2 * receivers, frame, at);
+    }
+}
+
+// The same, a receiver at a time.
+pub(crate) fn write_pairs(iq: &[i32], from: usize, receivers: usize, frame: &mut [u8], at: usize)
+    requires { ⌜ (from + 2 * receivers ≤ length (now iq)) × (at + 6 * receivers ≤ length (now frame)) ⌝ }
+    ensures { λ r. ⌜ now (frame .exit) ≡ sets (now (frame .entry)) at (tabs (2 * receivers) (λ j. iqBytes (now (iq .entry)) (from + j))) ⌝ }
+{
+    let mut r = 0;
+    while r < receivers {
+        let k = from + r * 2;
+        let i = iq[k];
+        let q = iq[k + 1];
+        let b = at + r * 6;
+        write_value(i, frame, b);
+        write_value(q, frame, b + 3);
+        r += 1;
+    }
 }
 
 // `count` samples from a place of `iq` on, three bytes each, over a frame from a place on.

@@ -9,7 +9,7 @@ mod control;
 mod export;
 mod fill;
 pub mod record;
-pub mod samples;
+mod samples;
 pub mod words;
 
 use crate::record::Status;

@@ -36,9 +36,40 @@ pub(crate) fn read_slot(part: &[u8], receivers: usize, t: usize, iq: &mut [i32],
     ensures { λ r. ⌜ (now (iq .exit) ≡ overAt (t * (2 * receivers)) (2 * receivers) (λ j. sample24 (now (part .entry)) (3 * j)) (now (iq .entry))) × (now (mic .exit) ≡ set (now (mic .entry)) t (sample16 (now (part .entry)) (6 * receivers))) ⌝ }
 {
     let count = 2 * receivers;
-    read_values(part, count, t * count, iq);
+    read_receivers(part, receivers, t * count, iq);
     let at = 6 * receivers;
     mic[t] = sample16(part[at], part[at + 1]);
+}
+
+// I and Q of each receiver of a part, over a slice from a place on. The loop of `read_values` is compiled to take many values at a
+// time, which pays from three receivers on.
+pub(crate) fn read_receivers(part: &[u8], receivers: usize, at: usize, iq: &mut [i32])
+    requires { ⌜ (6 * receivers ≤ length (now part)) × (at + 2 * receivers ≤ length (now iq)) ⌝ }
+    ensures { λ r. ⌜ now (iq .exit) ≡ overAt at (2 * receivers) (λ j. sample24 (now (part .entry)) (3 * j)) (now (iq .entry)) ⌝ }
+{
+    if receivers < 3 {
+        read_pairs(part, receivers, at, iq);
+    } else {
+        read_values(part, 2 * receivers, at, iq);
+    }
+}
+
+// The same, a receiver at a time. I and Q are both taken before either is stored, which is faster.
+pub(crate) fn read_pairs(part: &[u8], receivers: usize, at: usize, iq: &mut [i32])
+    requires { ⌜ (6 * receivers ≤ length (now part)) × (at + 2 * receivers ≤ length (now iq)) ⌝ }
+    ensures { λ r. ⌜ now (iq .exit) ≡ overAt at (2 * receivers) (λ j. sample24 (now (part .entry)) (3 * j)) (now (iq .entry)) ⌝ }
+{
+    let mut r = 0;
+    while r < receivers {
+        let b = r * 6;
+        let c = b + 3;
+        let k = at + r * 2;
+        let i = sample24(part[b], part[b + 1], part[b + 2]);
+        let q = sample24(part[c], part[c + 1], part[c + 2]);
+        iq[k] = i;
+        iq[k + 1] = q;
+        r += 1;
+    }
 }
 
 // The first `count` samples of a part, of three bytes each, over a slice from a place on.

@@ -9,7 +9,7 @@ use lib.Seq.{length-take-le, take-at}
 use Rattle.stream.proofs.Append.{reading-append}
 use Rattle.stream.proofs.Calls.{Passes, fed, accepted-passes}
 use Rattle.stream.proofs.Cells.{take-cells}
-use Rattle.wire.proofs.Counted.{zeros-are}
+use Rattle.wire.proofs.Everywhere.{zeros-are}
 use Rattle.stream.proofs.Readings.{counted, reading-few}
 use Rattle.stream.proofs.Sound.{Kept, after-kept}
 use Rattle.stream.specs.Feed.{after}

@@ -1,5 +1,5 @@
 -- Any two outcomes that a call's contract admits coincide. Assumes nothing.
-use mathlib.Core.Path.{_≡_, sym, ap, _∙_}
+use mathlib.Core.Path.{_≡_, ap}
 use mathlib.Core.Bool.{Bool}
 use mathlib.Core.List.{List}
 use Prim.Native.Nat.{ℕ}
@@ -7,9 +7,7 @@ use Rattle.stream.specs.Feed.{Outcome, gave, feedOf}
 use Rattle.stream.specs.Record.{freshOf, soundOf}
 use Rattle.stream.specs.declared.Stream.{Stream}
 use Rattle.stream.specs.declared.Fed.{Fed}
-
-settled : {A : Type 0} {x y z : A} → x ≡ z → y ≡ z → x ≡ y
-settled p q = p ∙ sym q
+use Rattle.wire.proofs.Settled.{settled}
 
 pub fresh-settled : (r s : Stream) → r ≡ freshOf → s ≡ freshOf → r ≡ s
 fresh-settled r s = settled

@@ -8,7 +8,7 @@ use lib.ListN.{length, length-append}
 use lib.Seq.{length-take-le}
 use Rattle.stream.proofs.Calls.{Passes, by-outcome}
 use Rattle.stream.proofs.Cells.{length-cells, drop-cells}
-use Rattle.wire.proofs.Counted.{zeros}
+use Rattle.wire.proofs.Everywhere.{zeros}
 use Rattle.stream.proofs.Readings.{counted}
 use Rattle.stream.proofs.Records.{Sound, sound-shown, sound-told}
 use Rattle.stream.specs.Feed.{after, feedOf}

@@ -7,7 +7,8 @@ pub mod Bytes
 pub mod Pack
 pub mod SyncCases
 pub mod Header
-pub mod Counted
+pub mod Everywhere
 pub mod Lists
 pub mod Fill
 pub mod Laid
+pub mod Settled

@@ -1,12 +1,12 @@
 -- Two's complement over half of the patterns, so that one law serves every width. Assumes nothing.
 use mathlib.Core.Path.{_≡_, refl, sym, ap, _∙_, subst⁻¹}
 use mathlib.Core.Bool.{true, false, true≢false}
-use Prim.Native.Nat.{ℕ, zero, suc, _+_, _-_, _%_, _<_, _≤_, suc-le-suc}
+use Prim.Native.Nat.{ℕ, zero, suc, _+_, _-_, _*_, _%_, _<_, _≤_, suc-le-suc}
 use native.Mathlib.Nat.{mod-eq-of-lt, mod-lt}
 use native.Mathlib.Omega.{arith}
 use borrow.Author.Tests.{ltb-true, ltb-false, lt-ltb, le-ltb}
 use lib.Dec.{ltb}
-use lib.IntN.{ℤ, pos, negsuc, _-ℤ_}
+use lib.IntN.{ℤ, pos, negsuc, _+ℤ_, _-ℤ_, _*ℤ_}
 use lib.Signed.{mag, ltZ}
 use Rattle.wire.proofs.Cases.{by-order}
 use Rattle.wire.specs.Numbers.{signedBy, unsignedBy, fitsBy}
@@ -89,3 +89,29 @@ fits-mag half (negsuc n) e = ltb-true n half e
 pub mag-fits : (half : ℕ) (z : ℤ) → mag z < half → fitsBy half z ≡ true
 mag-fits half (pos n) h = lt-ltb n half h
 mag-fits half (negsuc n) h = lt-ltb n half h
+
+-- a byte moved to the middle of its range, and back
+pub middle : (a : ℕ) → a < 256 → pos ((a + 128) % 256) -ℤ pos 128 ≡ signedBy 128 a
+middle a byte =
+    by-order a 128
+    (λ low. let moved : (a + 128) % 256 ≡ a + 128 = omega arith in let back : a + 128 - 128 ≡ a = omega arith in rw (moved, below-half 128 a low, le-ltb (a + 128) 128 (omega arith), back))
+    (λ high. let moved : (a + 128) % 256 ≡ a - 128 = omega arith in
+    rw (moved, from-half 128 a high, less-whole a 256 byte, less-whole (a - 128) 128 (omega arith)) (ap negsuc (omega arith)))
+
+-- two bytes below one that has the sign
+module _ (a r : ℕ) (byte : a < 256) (low : r < 65536) where
+  high-times : (half-way : 128 ≤ a) → signedBy 128 a *ℤ pos 65536 ≡ negsuc ((256 - a) * 65536 - 1)
+  high-times half-way =
+      let times : suc (256 - suc a) * 65536 ≡ suc ((256 - a) * 65536 - 1) = omega arith in
+      rw (from-half 128 a half-way, less-whole a 256 byte, times)
+
+  pub high-and-low : signedBy 128 a *ℤ pos 65536 +ℤ pos r ≡ signedBy 0x80_0000 (a * 65536 + r)
+  high-and-low =
+      by-order a 128
+      (λ below. rw (below-half 128 a below, below-half 0x80_0000 (a * 65536 + r) (omega arith)))
+      (λ above.
+      let under : ltb r (suc ((256 - a) * 65536 - 1)) ≡ true = lt-ltb r (suc ((256 - a) * 65536 - 1)) (omega arith) in
+      rw (high-times above, under, from-half 0x80_0000 (a * 65536 + r) (omega arith), less-whole (a * 65536 + r) 0x100_0000 (omega arith)) (ap negsuc (omega arith)))
+
+  pub times-fits : mag (signedBy 128 a *ℤ pos 65536) < 0x8000_0000
+  times-fits = by-order a 128 (λ below. rw (below-half 128 a below) (omega arith)) (λ above. rw (high-times above) (omega arith))

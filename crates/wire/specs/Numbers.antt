@@ -5,6 +5,7 @@ use mathlib.Core.List.{List, [], _∷_}
 use lib.Dec.{ltb}
 use lib.IntN.{ℤ, pos, negsuc, _-ℤ_}
 use lib.ListN.{length, getD}
+use lib.Signed.{mag}
 
 -- the number of bytes, the highest first
 abbrev pub be : List ℕ → ℕ
@@ -45,3 +46,7 @@ fits w z = fitsBy (2 ^ (w - 1)) z
 -- every element of the list is a byte
 abbrev pub Bytes : List ℕ → Type 0
 Bytes s = (i : ℕ) → getD s i 0 < 256
+
+-- and every element of this one is a number of 16 bits
+abbrev pub Samples16 : List ℤ → Type 0
+Samples16 xs = (i : ℕ) → mag (getD xs i (pos 0)) < 2 ^ 15

@@ -58,11 +58,11 @@ pub fn sample16(a: u8, b: u8) -> i16
     centred(be16(a, b) as u32, 0x8000) as i16
 }
 
-// A receiver's sample, from its three bytes.
+// A receiver's sample, from its three bytes: the sign is the highest one's.
 pub fn sample24(a: u8, b: u8, c: u8) -> i32
     ensures { λ r. ⌜ r ≡ signed 24 (be (a ∷ b ∷ c ∷ [])) ⌝ }
 {
-    centred(be24(a, b, c), 0x80_0000)
+    signed_byte(a) * 65536 + (be16(b, c) as i32)
 }
 
 pub fn bytes_of_sample16(x: i16) -> Bytes2
@@ -96,21 +96,26 @@ pub fn fits24(x: i32) -> bool
     x < 8388608
 }
 
-// Whether every one of xs fits, as `fits24` has it. It counts those that do not and has no early way
-// out, so that many are taken at a time.
+// Whether every one of xs fits, as `fits24` has it. It has no early way out, so that many are taken at a
+// time.
 pub fn all_fit24(xs: &[i32]) -> bool
     ensures { λ r. ⌜ r ≡ allFit (now (xs .entry)) ⌝ }
 {
-    let mut others: usize = 0;
+    let mut so_far = true;
     let mut i = 0;
     while i < xs.len() {
         let fits = fits24(xs[i]);
+        so_far = so_far & fits;
         i += 1;
-        if !fits {
-            others += 1;
-        }
     }
-    others == 0
+    so_far
+}
+
+// The number that a byte stands for. The form has no branch, and compiles to a load with the sign.
+pub(crate) fn signed_byte(a: u8) -> i32
+    ensures { λ r. ⌜ r ≡ signed 8 a ⌝ }
+{
+    ((a as u32 + 128) % 256) as i32 - 128
 }
 
 // The number that n stands for, where the patterns from half on stand for n - 2 * half.

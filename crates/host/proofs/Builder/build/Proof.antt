@@ -45,17 +45,17 @@ returns c =
 put-head-requires : tie.Need-put-head-requires
 put-head-requires c κs = let r = ready (c .before) in (omega arith, omega arith, r .range)
 
-sub-write-slots : tie.Need-sub-write-slots
-sub-write-slots c = let long = headed (c .before .before) in omega arith
+sub-write-numbers : tie.Need-sub-write-numbers
+sub-write-numbers c = let long = headed (c .before .before) in omega arith
 
-part-write-slots-start : tie.Need-part-write-slots-start
-part-write-slots-start c = let long = headed (c .before .before) in omega arith
+part-write-numbers-start : tie.Need-part-write-numbers-start
+part-write-numbers-start c = let long = headed (c .before .before) in omega arith
 
-part-write-slots-end : tie.Need-part-write-slots-end
-part-write-slots-end c = search needs
+part-write-numbers-end : tie.Need-part-write-numbers-end
+part-write-numbers-end c = search needs
 
-write-slots-requires : tie.Need-write-slots-requires
-write-slots-requires c κs =
+write-numbers-requires : tie.Need-write-numbers-requires
+write-numbers-requires c κs =
     let put = c .before .before .before in
     let frame = put .put-head .last .0 in
     (rw (payload-part frame, length-drop 8 frame, headed put), ready (put .before .before) .fits)
@@ -76,9 +76,9 @@ returns-2 c =
     same-outcome
     (tested (accepted .before .before) ∙ passed accepted)
     (λ i. record { host = b .host; turn = c .turn-after .ensures i })
-    (ap (λ f. putMid 8 (length f - 8) f (written .write-slots .last .0)) (put .put-head .ensures)
-    ∙ put-rest 8 (headOf (b .turn) (b .host)) (drop 8 (now (given .frame))) (written .write-slots .last .0) (length-head (b .turn) (b .host))
-    ∙ ap (λ p. headOf (b .turn) (b .host) ++ p) (written .write-slots .ensures))
+    (ap (λ f. putMid 8 (length f - 8) f (written .write-numbers .last .0)) (put .put-head .ensures)
+    ∙ put-rest 8 (headOf (b .turn) (b .host)) (drop 8 (now (given .frame))) (written .write-numbers .last .0) (length-head (b .turn) (b .host))
+    ∙ ap (λ p. headOf (b .turn) (b .host) ++ p) (written .write-numbers .ensures))
     ∙ sym (build-accepted _ _ _ (passed accepted))
 
 pub build-spec : {M : Type 1} → statement M
@@ -89,10 +89,10 @@ build-spec =
     number-requires
     returns
     put-head-requires
-    sub-write-slots
-    part-write-slots-start
-    part-write-slots-end
-    write-slots-requires
+    sub-write-numbers
+    part-write-numbers-start
+    part-write-numbers-end
+    write-numbers-requires
     turn-after-requires
     same-length
     returns-2)

@@ -19,11 +19,11 @@ use Rattle.radio.proofs.fill.write_slot.Tie as tie
 mul-count : tie.Need-mul-count
 mul-count c = search needs
 
-mul-write-values : tie.Need-mul-write-values
-mul-write-values c = search needs
+mul-write-receivers : tie.Need-mul-write-receivers
+mul-write-receivers c = search needs
 
-write-values-requires : tie.Need-write-values-requires
-write-values-requires c κs = search needs
+write-receivers-requires : tie.Need-write-receivers-requires
+write-receivers-requires c κs = search needs
 
 mul-end : tie.Need-mul-end
 mul-end c = search needs
@@ -66,15 +66,15 @@ returns c =
     let same : toZ w16 (ofZ w16 x) ≡ x = toZ-ofZ {w = w16} {z = x} (record { sfits = c .before .bytes-of-sample16-arg .given }) in
     let bytes : c .bytes-of-sample16 .result ≡ micBytes (now (given .mic)) (given .t) = c .bytes-of-sample16 .ensures ∙ ap (λ z. bytesOf 2 (unsigned 16 z)) same in
     rw (bytes, add-one (given .at + 6 * given .receivers))
-    (mic-after-values (given .receivers) (now (given .iq)) (now (given .mic)) (given .t) _ _ (given .at) (wrote .write-values .ensures))
+    (mic-after-values (given .receivers) (now (given .iq)) (now (given .mic)) (given .t) _ _ (given .at) (wrote .write-receivers .ensures))
 
 pub write-slot-spec : {M : Type 1} → statement M
 write-slot-spec =
     tie.close
     (tie.spec
     mul-count
-    mul-write-values
-    write-values-requires
+    mul-write-receivers
+    write-receivers-requires
     mul-end
     add-end
     mul-bytes-of-sample16

@@ -10,11 +10,11 @@ use Rattle.radio.proofs.samples.read_slot.Tie as tie
 mul-count : tie.Need-mul-count
 mul-count c = search needs
 
-mul-read-values : tie.Need-mul-read-values
-mul-read-values c = search needs
+mul-read-receivers : tie.Need-mul-read-receivers
+mul-read-receivers c = search needs
 
-read-values-requires : tie.Need-read-values-requires
-read-values-requires c κs = search needs
+read-receivers-requires : tie.Need-read-receivers-requires
+read-receivers-requires c κs = search needs
 
 mul-at : tie.Need-mul-at
 mul-at c = search needs
@@ -46,7 +46,7 @@ same-length-2 c = search needs
 returns : tie.Need-returns
 returns c =
     let given = c .before .before .before .before .before .before .before .args in (
-      c .before .before .before .before .read-values .ensures,
+      c .before .before .before .before .read-receivers .ensures,
       ap (set (given .mic .now) (given .t)) (toZ-ofZ {w = w16} (record { sfits = c .sample16 .ok }) ∙ c .sample16 .ensures),
     )
 
@@ -55,8 +55,8 @@ read-slot-spec =
     tie.close
     (tie.spec
     mul-count
-    mul-read-values
-    read-values-requires
+    mul-read-receivers
+    read-receivers-requires
     mul-at
     shared-slice-read-sample16
     add-sample16

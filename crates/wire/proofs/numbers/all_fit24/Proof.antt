@@ -1,25 +1,24 @@
--- `numbers::all_fit24` meets its contract: after i turns the count is that of the first i numbers. Assumes nothing.
-use mathlib.Core.Path.{_≡_, refl, sym, ap, _∙_}
-use Prim.Native.Nat.{_-_, _≤_}
+-- `numbers::all_fit24` meets its contract: number by number. Assumes nothing.
+use mathlib.Core.Path.{_≡_, sym, ap, _∙_}
+use mathlib.Core.Bool.{_&&_}
+use Prim.Native.Nat.{_+_, _-_}
 use native.Mathlib.Omega.{arith}
-use borrow.Author.Needs.{needs}
-use borrow.Author.Tests.{not-true, not-false}
 use denote.Ref.{now}
 use lib.IntN.{pos}
-use lib.ListN.{length, getD, take}
-use lib.Seq.{take-all}
+use lib.ListN.{length, getD}
 use mir.Facts.{toZ-ofZ}
 use mir.Syntax.{w32}
-use Rattle.wire.proofs.Counted.{failing, one-passes, one-fails, none-fails}
+use Rattle.wire.proofs.Everywhere.{Tested, none-tested, one-tested-more, all-tested}
 use Rattle.wire.specs.Numbers.{fits}
+use borrow.Author.Needs.{needs}
 use Rattle.wire.proofs.numbers.all_fit24.Statement.{statement}
 use Rattle.wire.proofs.numbers.all_fit24.Tie as tie
 
 abbrev Inv-loop : tie.InvT-loop
-Inv-loop xs others₀ i₀ others i = (i ≤ length xs) × (others ≤ i) × (others ≡ failing (fits 24) (take i xs))
+Inv-loop xs so-far₀ i₀ so-far i = Tested (fits 24) xs so-far i
 
 abbrev μ-loop : tie.MeasureT-loop
-μ-loop xs others₀ i₀ others i = length xs - i
+μ-loop xs so-far₀ i₀ so-far i = length xs - i
 
 -- what was tested is the element
 tested : (c : tie.After-fits24 Inv-loop μ-loop) → fits 24 (getD (now (c .before .before .before .before .args .xs)) (c .before .before .before .loop .i) (pos 0)) ≡ c .fits24 .result
@@ -28,7 +27,7 @@ tested c =
     ap (fits 24) (sym (toZ-ofZ {w = w32} {z = x} (record { sfits = c .before .fits24-arg .given }))) ∙ sym (c .fits24 .ensures)
 
 loop-holds : tie.Need-loop-holds Inv-loop μ-loop
-loop-holds c = (omega arith, omega arith, refl)
+loop-holds c = none-tested (fits 24) _
 
 mul-fits24 : tie.Need-mul-fits24 Inv-loop μ-loop
 mul-fits24 c = omega arith
@@ -42,29 +41,17 @@ fits24-requires c κs = search needs
 add-i : tie.Need-add-i Inv-loop μ-loop
 add-i c = omega arith
 
-add-others : tie.Need-add-others Inv-loop μ-loop
-add-others c = omega arith
-
 loop-less : tie.Need-loop-less Inv-loop μ-loop
 loop-less c = omega arith
 
 loop-again : tie.Need-loop-again Inv-loop μ-loop
 loop-again c =
     let turn = c .before .before .before in
-    (omega arith, omega arith, rw (turn .before .loop .inv .2) (sym (one-fails (fits 24) _ _ (pos 0) (turn .loop-test .taken) (tested (c .before) ∙ not-true _ (c .if1 .taken)))))
-
-loop-less-2 : tie.Need-loop-less-2 Inv-loop μ-loop
-loop-less-2 c = omega arith
-
-loop-again-2 : tie.Need-loop-again-2 Inv-loop μ-loop
-loop-again-2 c =
-    let turn = c .before .before .before in
-    (omega arith, omega arith, turn .before .loop .inv .2 ∙ sym (one-passes (fits 24) _ _ (pos 0) (turn .loop-test .taken) (tested (c .before) ∙ not-false _ (c .if1 .left))))
+    let xs = now (turn .before .args .xs) in
+    rw (sym (tested c)) (one-tested-more (fits 24) xs _ _ (turn .loop .inv) (pos 0) (omega arith))
 
 returns : tie.Need-returns Inv-loop μ-loop
-returns c =
-    let xs = now (c .before .before .args .xs) in
-    rw (c .before .loop .inv .2, take-all (c .before .loop .i) xs (c .loop-test .left)) (none-fails (fits 24) xs)
+returns c = all-tested (fits 24) _ _ _ (c .before .loop .inv) (omega arith)
 
 pub all-fit24-spec : {M : Type 1} → statement M
 all-fit24-spec =
@@ -77,9 +64,6 @@ all-fit24-spec =
     shared-slice-copy-out-fits24
     fits24-requires
     add-i
-    add-others
     loop-less
     loop-again
-    loop-less-2
-    loop-again-2
     returns)

@@ -1,44 +1,43 @@
--- A test of every element, by the count of those that fail it; and a list whose every byte is 0. Assumes nothing.
-use mathlib.Core.Path.{_≡_, refl, sym, _∙_, ap₂}
-use mathlib.Core.Bool.{Bool, true, false, cond, _&&_, and-assoc}
+-- A test of every element, one after another; and a list whose every byte is 0. Assumes nothing.
+use mathlib.Core.Path.{_≡_, refl, sym, ap, ap₂, _∙_}
+use mathlib.Core.Bool.{Bool, true, _&&_, and-assoc, and-true}
 use mathlib.Core.List.{List, [], _∷_, _++_}
-use Prim.Native.Nat.{ℕ, zero, suc, _+_, _<_}
+use Prim.Native.Nat.{ℕ, zero, suc, _+_, _<_, _≤_}
 use native.Mathlib.Nat.{le-of-suc-le-suc}
 use native.Mathlib.Numerals.{add-one}
 use native.Mathlib.Omega.{arith}
-use borrow.Author.Tests.{eqb-true, ne-eqb}
+use borrow.Author.Tests.{eqb-true}
 use lib.Dec.{eqb}
-use lib.ListN.{length, getD, take, replicate}
-use lib.Seq.{take-suc}
-use Rattle.wire.proofs.Cases.{by-test, by-order, both-true}
+use lib.ListN.{length, getD, drop, replicate, drop-of-length-le}
+use lib.Seq.{drop-cons}
+use Rattle.wire.proofs.Cases.{by-order, both-true}
 use Rattle.wire.specs.Lists.{tab}
 use Rattle.wire.specs.Every.{every, allZero}
 
 module _ {A : Type 0} (test : A → Bool) where
-  abbrev pub failing : List A → ℕ
-  failing [] = 0
-  failing (x ∷ xs) = cond (test x) 0 1 + failing xs
+  -- i of the elements have been tested, and what is left decides
+  pub record Tested (xs : List A) (so-far : Bool) (i : ℕ) : Type 0 where
+    pub within : i ≤ length xs
+    pub rest : (so-far && every test (drop i xs)) ≡ every test xs
 
-  failing-append : (x y : List A) → failing (x ++ y) ≡ failing x + failing y
-  failing-append [] y = omega arith
-  failing-append (a ∷ x) y = rw (failing-append x y) (omega arith)
+  module _ (xs : List A) where
+    pub none-tested : Tested xs true 0
+    none-tested = record { within = omega arith; rest = refl }
 
-  module _ (xs : List A) (i : ℕ) (d : A) (inside : i < length xs) where
-    failing-on : failing (take (i + 1) xs) ≡ failing (take i xs) + cond (test (getD xs i d)) 0 1
-    failing-on = rw (add-one i, take-suc xs i d inside, failing-append (take i xs) (getD xs i d ∷ [])) (omega arith)
+    module _ (so-far : Bool) (i : ℕ) (tested : Tested xs so-far i) where
+      pub one-tested-more : (d : A) → i < length xs → Tested xs (so-far && test (getD xs i d)) (i + 1)
+      one-tested-more d inside =
+          record {
+            within = omega arith;
+            rest =
+                ap (λ k. (so-far && test (getD xs i d)) && every test (drop k xs)) (add-one i)
+                ∙ and-assoc so-far _ _
+                ∙ sym (ap (λ l. so-far && every test l) (drop-cons xs i d inside))
+                ∙ tested .rest;
+          }
 
-    pub one-passes : test (getD xs i d) ≡ true → failing (take (i + 1) xs) ≡ failing (take i xs)
-    one-passes passed = rw (failing-on, passed) (omega arith)
-
-    pub one-fails : test (getD xs i d) ≡ false → failing (take (i + 1) xs) ≡ failing (take i xs) + 1
-    one-fails failed = rw (failing-on, failed)
-
-  pub none-fails : (xs : List A) → eqb (failing xs) 0 ≡ every test xs
-  none-fails [] = refl
-  none-fails (x ∷ xs) =
-      by-test (test x)
-      (λ passed. let same : 0 + failing xs ≡ failing xs = omega arith in rw (passed, same) (none-fails xs))
-      (λ failed. rw (failed, ne-eqb (1 + failing xs) 0 (λ e. omega arith)))
+      pub all-tested : length xs ≤ i → so-far ≡ every test xs
+      all-tested end = sym (and-true so-far) ∙ sym (ap (λ l. so-far && every test l) (drop-of-length-le xs end)) ∙ tested .rest
 
   every-append : (x y : List A) → every test (x ++ y) ≡ every test x && every test y
   every-append [] y = refl

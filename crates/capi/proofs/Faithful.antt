@@ -1,0 +1,124 @@
+-- Nothing is lost in the door: the record that a call leaves in the cells is the one that document 01's call gives back. A record's
+-- numbers are below the widths of their fields, which a machine's record has by its types. Assumes nothing.
+use mathlib.Core.Path.{_≡_, refl, ap, _∙_}
+use mathlib.Core.Bool.{Bool, true, false}
+use mathlib.Core.List.{List, [], _∷_, _++_}
+use Prim.Native.Nat.{ℕ, _+_, _%_, _^_, _<_, _≤_}
+use native.Mathlib.Nat.{mod-eq-of-lt, le-trans}
+use native.Mathlib.Omega.{arith}
+use lib.Dec.{eqb}
+use lib.ListN.{length, getD, take, drop}
+use lib.Seq.{sets, sets-eq, take-at, take-all}
+use mir.Val.{boolByte}
+use Rattle.radio.specs.RoundTrip.{Held}
+use Rattle.radio.specs.declared.record.Status.{Status}
+use Rattle.host.specs.Record.{Seven}
+use Rattle.host.specs.declared.record.Host.{Host}
+use Rattle.stream.specs.declared.Stream.{Stream}
+use Rattle.host.proofs.Codes.{ThereAndBack, speed-codes, source122-codes, boards-codes, microphone-codes, attenuator-codes, antenna-codes}
+use Rattle.host.specs.Choices.{speedCode, speedOf, source10Code, source122Code, source122Of, boardsCode, boardsOf, microphoneCode, microphoneOf, attenuatorCode, attenuatorOf, antennaCode, antennaOf, relayCode}
+use Rattle.host.specs.declared.record.Relay.{Relay}
+use Rattle.host.specs.declared.record.Source10.{Source10}
+use Rattle.wire.proofs.Lists.{tab-getD}
+use Rattle.capi.specs.Status.{statusOf, statusCells}
+use Rattle.capi.specs.Host.{hostOf, hostCells, source10Of, relayOf}
+use Rattle.capi.specs.Stream.{streamOf, countsOf}
+
+flag-back : (b : Bool) → eqb (boolByte b) 1 ≡ b
+flag-back true = refl
+flag-back false = refl
+
+-- fields over the first cells are followed by what stood behind them
+over : (fields cells : List ℕ) → length fields ≤ length cells → sets cells 0 fields ≡ fields ++ drop (0 + length fields) cells
+over fields cells room = sets-eq fields cells 0 (omega arith)
+
+pub record StatusFits (s : Status) : Type 0 where
+  pub held : Held s
+  pub board1 : s .versions .board1 < 256
+  pub board2 : s .versions .board2 < 256
+  pub board3 : s .versions .board3 < 256
+  pub board4 : s .versions .board4 < 256
+
+pub status-back : (s : Status) (cells : List ℕ) → StatusFits s → 26 ≤ length cells → statusOf (sets cells 0 (statusCells s)) ≡ s
+status-back s cells fits room = ap statusOf (over (statusCells s) cells room) ∙ (λ i.
+    record {
+      dot = flag-back (s .dot) i;
+      dash = flag-back (s .dash) i;
+      ptt = flag-back (s .ptt) i;
+      overflow = record { adc1 = flag-back (s .overflow .adc1) i; adc2 = flag-back (s .overflow .adc2) i; adc3 = flag-back (s .overflow .adc3) i; adc4 = flag-back (s .overflow .adc4) i };
+      inputs = record {
+        io1 = flag-back (s .inputs .io1) i;
+        io2 = flag-back (s .inputs .io2) i;
+        io3 = flag-back (s .inputs .io3) i;
+        io4 = flag-back (s .inputs .io4) i;
+        pll = flag-back (s .inputs .pll) i;
+        toggle = flag-back (s .inputs .toggle) i;
+        mercury = mod-eq-of-lt (fits .held .mercury) i;
+        penelope = mod-eq-of-lt (fits .held .penelope) i;
+        main = mod-eq-of-lt (fits .held .main) i;
+      };
+      forward = record { ain5 = mod-eq-of-lt (fits .held .ain5) i; ain1 = mod-eq-of-lt (fits .held .ain1) i };
+      reverse = record { ain2 = mod-eq-of-lt (fits .held .ain2) i; ain3 = mod-eq-of-lt (fits .held .ain3) i };
+      supply = record { ain4 = mod-eq-of-lt (fits .held .ain4) i; ain6 = mod-eq-of-lt (fits .held .ain6) i };
+      versions = record { board1 = mod-eq-of-lt (fits .board1) i; board2 = mod-eq-of-lt (fits .board2) i; board3 = mod-eq-of-lt (fits .board3) i; board4 = mod-eq-of-lt (fits .board4) i };
+    })
+
+-- a choice is the one at its code
+choice-back : {A : Type 0} (count : ℕ) (code : A → ℕ) (choice : ℕ → A) → ThereAndBack count code choice → count ≤ 256 → (x : A) → choice (code x % 2 ^ 8) ≡ x
+choice-back count code choice codes few x =
+    let below : code x < 2 ^ 8 = le-trans (codes .fits x) few in ap choice (mod-eq-of-lt below) ∙ codes .back x
+
+source10-back : (x : Source10) → source10Of (source10Code x) ≡ x
+source10-back Source10.AtlasOrExcalibur = refl
+source10-back Source10.Penelope = refl
+source10-back Source10.Mercury = refl
+
+relay-back : (x : Relay) → relayOf (relayCode x) ≡ x
+relay-back Relay.Tx1 = refl
+relay-back Relay.Tx2 = refl
+relay-back Relay.Tx3 = refl
+
+pub record HostFits (h : Host) : Type 0 where
+  pub outputs : h .outputs < 256
+  pub receivers : h .receivers < 256
+  pub drive : h .drive < 256
+  pub seven : Seven h
+
+seven-back : (hz : List ℕ) → length hz ≡ 7 → getD hz 0 0 ∷ getD hz 1 0 ∷ getD hz 2 0 ∷ getD hz 3 0 ∷ getD hz 4 0 ∷ getD hz 5 0 ∷ getD hz 6 0 ∷ [] ≡ hz
+seven-back hz seven = tab-getD 7 hz 0 (omega (arith, seven)) ∙ take-all 7 hz (omega (arith, seven))
+
+pub host-back : (h : Host) (cells : List ℕ) → HostFits h → 51 ≤ length cells → hostOf (sets cells 0 (hostCells h)) ≡ h
+host-back h cells fits room = ap hostOf (over (hostCells h) cells room) ∙ (λ i.
+    record {
+      mox = flag-back (h .mox) i;
+      speed = choice-back 4 speedCode speedOf speed-codes (omega arith) (h .speed) i;
+      source10 = source10-back (h .source10) i;
+      source122 = choice-back 2 source122Code source122Of source122-codes (omega arith) (h .source122) i;
+      boards = choice-back 4 boardsCode boardsOf boards-codes (omega arith) (h .boards) i;
+      microphone = choice-back 2 microphoneCode microphoneOf microphone-codes (omega arith) (h .microphone) i;
+      classe = flag-back (h .classe) i;
+      outputs = mod-eq-of-lt (fits .outputs) i;
+      attenuator = choice-back 4 attenuatorCode attenuatorOf attenuator-codes (omega arith) (h .attenuator) i;
+      preamp = flag-back (h .preamp) i;
+      dither = flag-back (h .dither) i;
+      random = flag-back (h .random) i;
+      antenna = choice-back 4 antennaCode antennaOf antenna-codes (omega arith) (h .antenna) i;
+      rxout = flag-back (h .rxout) i;
+      relay = relay-back (h .relay) i;
+      duplex = flag-back (h .duplex) i;
+      receivers = mod-eq-of-lt (fits .receivers) i;
+      timestamp = flag-back (h .timestamp) i;
+      common = flag-back (h .common) i;
+      transmitter = h .transmitter;
+      frequencies = seven-back (h .frequencies) (fits .seven) i;
+      drive = mod-eq-of-lt (fits .drive) i;
+      controls = record { boost = flag-back (h .controls .boost) i; linein = flag-back (h .controls .linein) i; filter = flag-back (h .controls .filter) i; tuner = flag-back (h .controls .tuner) i; tune = flag-back (h .controls .tune) i; board = flag-back (h .controls .board) i; manual = flag-back (h .controls .manual) i; vna = flag-back (h .controls .vna) i };
+      highpass = record { mhz13 = flag-back (h .highpass .mhz13) i; mhz20 = flag-back (h .highpass .mhz20) i; mhz9 = flag-back (h .highpass .mhz9) i; mhz6 = flag-back (h .highpass .mhz6) i; mhz1 = flag-back (h .highpass .mhz1) i; bypass = flag-back (h .highpass .bypass) i; amplifier = flag-back (h .highpass .amplifier) i; trdisabled = flag-back (h .highpass .trdisabled) i };
+      lowpass = record { m30 = flag-back (h .lowpass .m30) i; m60 = flag-back (h .lowpass .m60) i; m80 = flag-back (h .lowpass .m80) i; m160 = flag-back (h .lowpass .m160) i; m6 = flag-back (h .lowpass .m6) i; m12 = flag-back (h .lowpass .m12) i; m17 = flag-back (h .lowpass .m17) i };
+    })
+
+pub stream-back : (s : Stream) (counts held : List ℕ) → length (s .held) ≡ 514 → 4 ≤ length counts → 514 ≤ length held → streamOf (sets counts 0 (countsOf s)) (sets held 0 (s .held)) ≡ s
+stream-back s counts held full few room =
+    let bytes : take 514 (sets held 0 (s .held)) ≡ s .held = ap (take 514) (over (s .held) held (omega (arith, full))) ∙ take-at (s .held) (drop (0 + length (s .held)) held) 514 full in
+    ap (λ l. streamOf l (sets held 0 (s .held))) (over (countsOf s) counts few)
+    ∙ (λ i. record { held = bytes i; count = s .count; frames = s .frames; skipped = s .skipped; total = s .total })
