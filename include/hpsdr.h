@@ -11,7 +11,8 @@
  *
  * A record is a struct whose members are all of one type, and is lent as a slice of them, its cells. A longer
  * slice keeps its remainder. Cells that no record holds (too few of them, a flag above 1, a code past the
- * last, a number too large for its field) are refused as HPSDR_BAD_STATE, before all else.
+ * last, a number too large for its field) are refused as HPSDR_BAD_STATE, before all else. A call that only
+ * writes a record, `hpsdr_layout` or a `_fresh` one, asks for enough cells and does not look at them.
  *
  * What a call returns is its answer in bits 7 to 0 and, where it says so, what it found in the bits above.
  */
@@ -166,7 +167,8 @@ struct hpsdr_counts {
 /* The record of a stream of which nothing has been read. Refusal: BAD_STATE. */
 uint32_t hpsdr_stream_fresh(struct hpsdr_counts *counts, size_t counts_cells, uint8_t *held, size_t held_length);
 
-/* Whether a record is one that a reading can have left: ACCEPTED, or BAD_STATE. */
+/* Whether a record is sound: at most 514 bytes held and the others 0, a total of at most 2^48, and 512 times the
+ * frames, the skipped and the held bytes together the total. ACCEPTED, or BAD_STATE. */
 uint32_t hpsdr_stream_sound(const struct hpsdr_counts *counts, size_t counts_cells,
                             const uint8_t *held, size_t held_length);
 
