@@ -17,6 +17,13 @@ sources() {
     done | sort
 }
 
+# Links in one folder to all of another that it does not have itself.
+link_rest() {
+    for entry in "$1"/*; do
+        [ -e "$2/$(basename "$entry")" ] || ln -s "$entry" "$2"
+    done
+}
+
 # A copy of the toolchain, by links, whose clang keeps the module.
 keeping_toolchain() {
     rt=$(readlink -f "$(command -v rt)")
@@ -24,11 +31,6 @@ keeping_toolchain() {
     kept=$folder/toolchain
     rm -rf "$kept"
     mkdir -p "$kept/on/$machine/toolchain/bin"
-    ln -s "$real"/* "$kept" 2>/dev/null || true
-    ln -s "$real/on/$machine"/* "$kept/on/$machine" 2>/dev/null || true
-    ln -s "$real/on/$machine/toolchain"/* "$kept/on/$machine/toolchain" 2>/dev/null || true
-    ln -s "$real/on/$machine/toolchain/bin"/* "$kept/on/$machine/toolchain/bin"
-    rm "$kept/on/$machine/toolchain/bin/clang"
     cat >"$kept/on/$machine/toolchain/bin/clang" <<END
 #!/bin/sh
 for word; do
@@ -37,6 +39,9 @@ done
 exec "$real/on/$machine/toolchain/bin/clang" "\$@"
 END
     chmod +x "$kept/on/$machine/toolchain/bin/clang"
+    for inner in "/on/$machine/toolchain/bin" "/on/$machine/toolchain" "/on/$machine" ""; do
+        link_rest "$real$inner" "$kept$inner"
+    done
 }
 
 # The module for this machine: its text, without the lines and attributes that name another one.

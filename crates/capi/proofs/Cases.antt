@@ -1,5 +1,5 @@
 -- What each outcome is in its cases: cells that can be no record, a refusal, and an accepted call. Assumes nothing.
-use mathlib.Core.Path.{_≡_, ap, sym, _∙_}
+use mathlib.Core.Path.{_≡_, sym, _∙_}
 use mathlib.Core.Bool.{cond, true, false, false≢true}
 use mathlib.Core.List.{List}
 use Prim.Native.Nat.{ℕ, _<_, _≤_}
@@ -17,10 +17,10 @@ use Rattle.capi.proofs.Tested.{too-few}
 
 module _ (answer : Answer) (fields cells : List ℕ) where
   pub kept-refused : (numberOf answer ≡ 0 → ⊥) → kept answer fields cells ≡ cells
-  kept-refused not-accepted = ap (λ b. cond b (sets cells 0 fields) cells) (ne-eqb (numberOf answer) 0 not-accepted)
+  kept-refused not-accepted = rw (ne-eqb (numberOf answer) 0 not-accepted)
 
   pub kept-accepted : numberOf answer ≡ 0 → kept answer fields cells ≡ sets cells 0 fields
-  kept-accepted accepted = ap (λ b. cond b (sets cells 0 fields) cells) (eq-eqb (numberOf answer) 0 accepted)
+  kept-accepted accepted = rw (eq-eqb (numberOf answer) 0 accepted)
 
 -- cells that can be a record's are enough of them
 pub enough : (most cells : List ℕ) → within most cells ≡ true → length most ≤ length cells
@@ -29,24 +29,24 @@ enough most cells fits = by-order (length cells) (length most) (λ few. absurd (
 module _ (fields cells : List ℕ) where
   pub offered-few : length cells < length fields → offered fields cells ≡ wrote badState cells
   unfolding offered
-  offered-few few = ap (λ b. cond b (wrote badState cells) (wrote 0 (sets cells 0 fields))) (lt-ltb (length cells) (length fields) few)
+  offered-few few = rw (lt-ltb (length cells) (length fields) few)
 
   pub offered-room : length fields ≤ length cells → offered fields cells ≡ wrote 0 (sets cells 0 fields)
   unfolding offered
-  offered-room room = ap (λ b. cond b (wrote badState cells) (wrote 0 (sets cells 0 fields))) (le-ltb (length cells) (length fields) room)
+  offered-room room = rw (le-ltb (length cells) (length fields) room)
 
 module _ (n : ℕ) (cells : List ℕ) where
   pub layout-few : length cells < 3 → layoutOf n cells ≡ wrote badState cells
   unfolding layoutOf
-  layout-few few = ap (λ b. cond b (wrote badState cells) (cond (counted n) (offered (rowCells n) cells) (wrote (numberOf BadCount) cells))) (lt-ltb (length cells) 3 few)
+  layout-few few = rw (lt-ltb (length cells) 3 few)
 
   module _ (room : 3 ≤ length cells) where
     layout-room : layoutOf n cells ≡ cond (counted n) (offered (rowCells n) cells) (wrote (numberOf BadCount) cells)
     unfolding layoutOf
-    layout-room = ap (λ b. cond b (wrote badState cells) (cond (counted n) (offered (rowCells n) cells) (wrote (numberOf BadCount) cells))) (le-ltb (length cells) 3 room)
+    layout-room = rw (le-ltb (length cells) 3 room)
 
     pub layout-bad-count : counted n ≡ false → layoutOf n cells ≡ wrote (numberOf BadCount) cells
-    layout-bad-count bad = layout-room ∙ ap (λ b. cond b (offered (rowCells n) cells) (wrote (numberOf BadCount) cells)) bad
+    layout-bad-count bad = layout-room ∙ rw bad
 
     pub layout-found : counted n ≡ true → layoutOf n cells ≡ offered (rowCells n) cells
-    layout-found good = layout-room ∙ ap (λ b. cond b (offered (rowCells n) cells) (wrote (numberOf BadCount) cells)) good
+    layout-found good = layout-room ∙ rw good

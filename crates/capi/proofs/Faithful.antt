@@ -1,14 +1,14 @@
 -- Nothing is lost in the door: the record that a call leaves in the cells is the one that document 01's call gives back. A record's
 -- numbers are below the widths of their fields, which a machine's record has by its types. Assumes nothing.
-use mathlib.Core.Path.{_≡_, refl, ap, _∙_}
+use mathlib.Core.Path.{_≡_, refl, sym, ap, ap₂, subst⁻¹, _∙_}
 use mathlib.Core.Bool.{Bool, true, false}
 use mathlib.Core.List.{List, [], _∷_, _++_}
 use Prim.Native.Nat.{ℕ, _+_, _%_, _^_, _<_, _≤_}
 use native.Mathlib.Nat.{mod-eq-of-lt, le-trans}
 use native.Mathlib.Omega.{arith}
 use lib.Dec.{eqb}
-use lib.ListN.{length, getD, take, drop}
-use lib.Seq.{sets, sets-eq, take-at, take-all}
+use lib.ListN.{length, getD, take, drop, set, take-append-drop}
+use lib.Seq.{sets, sets-eq, take-at, take-all, drop-cons}
 use mir.Val.{boolByte}
 use Rattle.radio.specs.RoundTrip.{Held}
 use Rattle.radio.specs.declared.record.Status.{Status}
@@ -20,8 +20,9 @@ use Rattle.host.specs.Choices.{speedCode, speedOf, source10Code, source122Code,
 use Rattle.host.specs.declared.record.Relay.{Relay}
 use Rattle.host.specs.declared.record.Source10.{Source10}
 use Rattle.wire.proofs.Lists.{tab-getD}
+use Rattle.wire.specs.Lists.{tab}
 use Rattle.capi.specs.Status.{statusOf, statusCells}
-use Rattle.capi.specs.Host.{hostOf, hostCells, source10Of, relayOf}
+use Rattle.capi.specs.Host.{hostOf, hostCells, builderOf, source10Of, relayOf}
 use Rattle.capi.specs.Stream.{streamOf, countsOf}
 
 flag-back : (b : Bool) → eqb (boolByte b) 1 ≡ b
@@ -116,6 +117,16 @@ host-back h cells fits room = ap hostOf (over (hostCells h) cells room) ∙ (λ 
       highpass = record { mhz13 = flag-back (h .highpass .mhz13) i; mhz20 = flag-back (h .highpass .mhz20) i; mhz9 = flag-back (h .highpass .mhz9) i; mhz6 = flag-back (h .highpass .mhz6) i; mhz1 = flag-back (h .highpass .mhz1) i; bypass = flag-back (h .highpass .bypass) i; amplifier = flag-back (h .highpass .amplifier) i; trdisabled = flag-back (h .highpass .trdisabled) i };
       lowpass = record { m30 = flag-back (h .lowpass .m30) i; m60 = flag-back (h .lowpass .m60) i; m80 = flag-back (h .lowpass .m80) i; m160 = flag-back (h .lowpass .m160) i; m6 = flag-back (h .lowpass .m6) i; m12 = flag-back (h .lowpass .m12) i; m17 = flag-back (h .lowpass .m17) i };
     })
+
+-- a build writes the turn's cell alone: the host record that the cells are is the one that it was
+pub builder-back : (cells : List ℕ) (turn : ℕ) → turn < 256 → 52 ≤ length cells → builderOf (set cells 51 turn) ≡ record { host = hostOf cells; turn = turn }
+builder-back cells turn fits room =
+    let first = tab 51 (λ k. getD cells k 0) in
+    let last = getD cells 51 0 ∷ drop 52 cells in
+    let parted : cells ≡ first ++ last =
+    sym (take-append-drop 51 cells) ∙ ap₂ _++_ (sym (tab-getD 51 cells 0 (omega arith))) (drop-cons cells 51 0 (omega arith)) in
+    subst⁻¹ (λ (l : List ℕ). builderOf (set l 51 turn) ≡ record { host = hostOf l; turn = turn }) parted
+    (λ i. record { host = hostOf (first ++ last); turn = mod-eq-of-lt fits i })
 
 pub stream-back : (s : Stream) (counts held : List ℕ) → length (s .held) ≡ 514 → 4 ≤ length counts → 514 ≤ length held → streamOf (sets counts 0 (countsOf s)) (sets held 0 (s .held)) ≡ s
 stream-back s counts held full few room =

@@ -1,6 +1,6 @@
 -- Reading and building host frames through the door, in their cases. Assumes nothing.
-use mathlib.Core.Path.{_≡_, ap}
-use mathlib.Core.Bool.{cond, true, false}
+use mathlib.Core.Path.{_≡_}
+use mathlib.Core.Bool.{true, false}
 use mathlib.Core.List.{List}
 use Prim.Native.Nat.{ℕ}
 use borrow.Author.Tests.{ne-eqb, eq-eqb}
@@ -17,24 +17,24 @@ use Rattle.capi.specs.HostCalls.{gave, shown, hostReadOf, built, turned,
 module _ (frame : List ℕ) (audio : List ℤ) (cells : List ℕ) where
   pub read-bad : within hostMost cells ≡ false → hostReadOf frame audio cells ≡ gave badState cells audio
   unfolding hostReadOf
-  read-bad bad = ap (λ b. cond b (shown cells (readOf frame audio (hostOf cells))) (gave badState cells audio)) bad
+  read-bad bad = rw bad
 
   pub read-good : within hostMost cells ≡ true → hostReadOf frame audio cells ≡ shown cells (readOf frame audio (hostOf cells))
   unfolding hostReadOf
-  read-good good = ap (λ b. cond b (shown cells (readOf frame audio (hostOf cells))) (gave badState cells audio)) good
+  read-good good = rw good
 
 module _ (cells : List ℕ) (audio : List ℤ) (frame : List ℕ) where
   pub build-bad : within builderMost cells ≡ false → hostBuildOf cells audio frame ≡ built badState cells frame
   unfolding hostBuildOf
-  build-bad bad = ap (λ b. cond b (numbered cells (buildOf (builderOf cells) audio frame)) (built badState cells frame)) bad
+  build-bad bad = rw bad
 
   pub build-good : within builderMost cells ≡ true → hostBuildOf cells audio frame ≡ numbered cells (buildOf (builderOf cells) audio frame)
   unfolding hostBuildOf
-  build-good good = ap (λ b. cond b (numbered cells (buildOf (builderOf cells) audio frame)) (built badState cells frame)) good
+  build-good good = rw good
 
 module _ (answer : Answer) (turn : ℕ) (cells : List ℕ) where
   pub turned-refused : (numberOf answer ≡ 0 → ⊥) → turned answer turn cells ≡ cells
-  turned-refused not-accepted = ap (λ b. cond b (set cells 51 turn) cells) (ne-eqb (numberOf answer) 0 not-accepted)
+  turned-refused not-accepted = rw (ne-eqb (numberOf answer) 0 not-accepted)
 
   pub turned-accepted : numberOf answer ≡ 0 → turned answer turn cells ≡ set cells 51 turn
-  turned-accepted accepted = ap (λ b. cond b (set cells 51 turn) cells) (eq-eqb (numberOf answer) 0 accepted)
+  turned-accepted accepted = rw (eq-eqb (numberOf answer) 0 accepted)

@@ -1,6 +1,6 @@
 -- Reading and writing radio frames through the door, in their cases. Assumes nothing.
-use mathlib.Core.Path.{_≡_, ap}
-use mathlib.Core.Bool.{cond, true, false}
+use mathlib.Core.Path.{_≡_}
+use mathlib.Core.Bool.{true, false}
 use mathlib.Core.List.{List}
 use Prim.Native.Nat.{ℕ}
 use lib.IntN.{ℤ}
@@ -13,17 +13,17 @@ use Rattle.capi.specs.Radio.{gave, shown, radioReadOf, numbered, radioWr
 module _ (frame : List ℕ) (n : ℕ) (iq mic : List ℤ) (cells : List ℕ) where
   pub read-bad : within statusMost cells ≡ false → radioReadOf frame n iq mic cells ≡ gave badState cells iq mic
   unfolding radioReadOf
-  read-bad bad = ap (λ b. cond b (shown cells (readOf frame n iq mic (statusOf cells))) (gave badState cells iq mic)) bad
+  read-bad bad = rw bad
 
   pub read-good : within statusMost cells ≡ true → radioReadOf frame n iq mic cells ≡ shown cells (readOf frame n iq mic (statusOf cells))
   unfolding radioReadOf
-  read-good good = ap (λ b. cond b (shown cells (readOf frame n iq mic (statusOf cells))) (gave badState cells iq mic)) good
+  read-good good = rw good
 
 module _ (cells : List ℕ) (w n : ℕ) (iq mic : List ℤ) (frame : List ℕ) where
   pub write-bad : within statusMost cells ≡ false → radioWriteOf cells w n iq mic frame ≡ wrote badState frame
   unfolding radioWriteOf
-  write-bad bad = ap (λ b. cond b (numbered (writeOf (statusOf cells) w n iq mic frame)) (wrote badState frame)) bad
+  write-bad bad = rw bad
 
   pub write-good : within statusMost cells ≡ true → radioWriteOf cells w n iq mic frame ≡ numbered (writeOf (statusOf cells) w n iq mic frame)
   unfolding radioWriteOf
-  write-good good = ap (λ b. cond b (numbered (writeOf (statusOf cells) w n iq mic frame)) (wrote badState frame)) good
+  write-good good = rw good

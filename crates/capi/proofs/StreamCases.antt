@@ -1,5 +1,5 @@
 -- The stream's calls through the door, in their cases. Assumes nothing.
-use mathlib.Core.Path.{_≡_, ap, _∙_}
+use mathlib.Core.Path.{_≡_}
 use mathlib.Core.Bool.{Bool, cond, true, false}
 use mathlib.Core.List.{List}
 use Prim.Native.Nat.{ℕ, _≤_}
@@ -19,25 +19,25 @@ module _ (counts held : List ℕ) where
 
   pub fresh-bad : lent counts held ≡ false → freshIn counts held ≡ left badState counts held
   unfolding freshIn
-  fresh-bad bad = ap (λ b. cond b (left 0 (sets counts 0 (countsOf freshOf)) (sets held 0 (freshOf .held))) (left badState counts held)) bad
+  fresh-bad bad = rw bad
 
   pub fresh-good : lent counts held ≡ true → freshIn counts held ≡ left 0 (sets counts 0 (countsOf freshOf)) (sets held 0 (freshOf .held))
   unfolding freshIn
-  fresh-good good = ap (λ b. cond b (left 0 (sets counts 0 (countsOf freshOf)) (sets held 0 (freshOf .held))) (left badState counts held)) good
+  fresh-good good = rw good
 
   pub sound-bad : lent counts held ≡ false → soundIn counts held ≡ badState
   unfolding soundIn
-  sound-bad bad = ap (λ b. cond b (cond (soundOf (streamOf counts held)) 0 badState) badState) bad
+  sound-bad bad = rw bad
 
   pub sound-good : lent counts held ≡ true → (sound : Bool) → soundOf (streamOf counts held) ≡ sound → soundIn counts held ≡ cond sound 0 badState
   unfolding soundIn
-  sound-good good sound is = ap (λ b. cond b (cond (soundOf (streamOf counts held)) 0 badState) badState) good ∙ ap (λ b. cond b 0 badState) is
+  sound-good good sound is = rw (good, is)
 
   module _ (piece output : List ℕ) where
     pub feed-bad : lent counts held ≡ false → feedIn counts held piece output ≡ gave badState counts held output
     unfolding feedIn
-    feed-bad bad = ap (λ b. cond b (shown counts held (feedOf (streamOf counts held) piece output)) (gave badState counts held output)) bad
+    feed-bad bad = rw bad
 
     pub feed-good : lent counts held ≡ true → feedIn counts held piece output ≡ shown counts held (feedOf (streamOf counts held) piece output)
     unfolding feedIn
-    feed-good good = ap (λ b. cond b (shown counts held (feedOf (streamOf counts held) piece output)) (gave badState counts held output)) good
+    feed-good good = rw good

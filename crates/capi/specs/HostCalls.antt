@@ -4,7 +4,7 @@ use Prim.Native.Nat.{ℕ}
 use mathlib.Core.Bool.{cond}
 use mathlib.Core.List.{List}
 use lib.IntN.{ℤ}
-use lib.ListN.{take, set}
+use lib.ListN.{set}
 use Rattle.wire.specs.Answers.{numberOf, accepts}
 use Rattle.wire.specs.declared.Answer.{Answer}
 use Rattle.host.specs.Build as Build

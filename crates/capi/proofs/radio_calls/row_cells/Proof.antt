@@ -1,5 +1,5 @@
 -- `radio_calls::row_cells` meets its contract: no number of a row is above 504. Assumes nothing.
-use mathlib.Core.Path.{_≡_, ap}
+use mathlib.Core.Path.{ap}
 use mathlib.Core.List.{[], _∷_}
 use native.Mathlib.Omega.{arith}
 use Rattle.layout.specs.declared.Row.{Row}

@@ -1,8 +1,8 @@
 -- `stream_calls::held_of` meets its contract: all 514 bytes are copied. Assumes nothing.
-use mathlib.Core.Path.{_≡_, sym, _∙_}
+use mathlib.Core.Path.{sym, _∙_}
 use native.Mathlib.Omega.{arith}
 use denote.Ref.{now}
-use lib.ListN.{length, take, replicate}
+use lib.ListN.{take, replicate}
 use lib.Seq.{length-take-le}
 use Rattle.wire.proofs.Lists.{sets-all}
 use borrow.Author.Needs.{needs}

@@ -1,11 +1,8 @@
 -- `hpsdr_stream_sound` meets its contract: no cells for a record, an unsound one, or a sound one. Assumes nothing.
 use mathlib.Core.Path.{_≡_, sym, ap, _∙_}
 use mathlib.Core.Bool.{true}
-use Prim.Native.Nat.{_≤_}
 use borrow.Author.Tests.{not-true, not-false}
 use denote.Ref.{now}
-use lib.ListN.{length}
-use mathlib.Core.Bool.{Bool}
 use Rattle.stream.specs.Record.{soundOf}
 use Rattle.capi.specs.Stream.{lent, streamOf}
 use Rattle.capi.proofs.StreamCases.{enough, sound-bad, sound-good}
