@@ -1,5 +1,5 @@
 -- `control::write_header` meets its contract: the header of its word. Assumes nothing.
-use mathlib.Core.Path.{_≡_, ap₂, _∙_}
+use mathlib.Core.Path.{ap₂, _∙_}
 use Prim.Native.Nat.{_≤_}
 use borrow.Author.Needs.{needs}
 use denote.Ref.{now}
