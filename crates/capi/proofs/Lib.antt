@@ -8,4 +8,5 @@ pub mod RadioCases
 pub mod HostCases
 pub mod StreamCases
 pub mod Faithful
+pub mod Leaves
 pub mod Settled

@@ -22,12 +22,6 @@ pub fn be16(a: u8, b: u8) -> u16
     (a as u16) * 256 + (b as u16)
 }
 
-pub fn be24(a: u8, b: u8, c: u8) -> u32
-    ensures { λ r. ⌜ r ≡ be (a ∷ b ∷ c ∷ []) ⌝ }
-{
-    (a as u32) * 65536 + (b as u32) * 256 + (c as u32)
-}
-
 pub fn be32(a: u8, b: u8, c: u8, d: u8) -> u32
     ensures { λ r. ⌜ r ≡ be (a ∷ b ∷ c ∷ d ∷ []) ⌝ }
 {
