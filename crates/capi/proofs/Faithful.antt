@@ -3,7 +3,7 @@
 use mathlib.Core.Path.{_≡_, refl, sym, ap, ap₂, subst⁻¹, _∙_}
 use mathlib.Core.Bool.{Bool, true, false}
 use mathlib.Core.List.{List, [], _∷_, _++_}
-use Prim.Native.Nat.{ℕ, _+_, _%_, _^_, _<_, _≤_}
+use Prim.Native.Nat.{ℕ, suc, _+_, _%_, _^_, _<_, _≤_}
 use native.Mathlib.Nat.{mod-eq-of-lt, le-trans}
 use native.Mathlib.Omega.{arith}
 use lib.Dec.{eqb}
@@ -22,7 +22,7 @@ use Rattle.host.specs.declared.record.Source10.{Source10}
 use Rattle.wire.proofs.Lists.{tab-getD}
 use Rattle.wire.specs.Lists.{tab}
 use Rattle.capi.specs.Status.{statusOf, statusCells}
-use Rattle.capi.specs.Host.{hostOf, hostCells, builderOf, source10Of, relayOf}
+use Rattle.capi.specs.Host.{hostCount, hostOf, hostCells, builderOf, source10Of, relayOf}
 use Rattle.capi.specs.Stream.{streamOf, countsOf}
 
 flag-back : (b : Bool) → eqb (boolByte b) 1 ≡ b
@@ -88,7 +88,7 @@ pub record HostFits (h : Host) : Type 0 where
 seven-back : (hz : List ℕ) → length hz ≡ 7 → getD hz 0 0 ∷ getD hz 1 0 ∷ getD hz 2 0 ∷ getD hz 3 0 ∷ getD hz 4 0 ∷ getD hz 5 0 ∷ getD hz 6 0 ∷ [] ≡ hz
 seven-back hz seven = tab-getD 7 hz 0 (omega (arith, seven)) ∙ take-all 7 hz (omega (arith, seven))
 
-pub host-back : (h : Host) (cells : List ℕ) → HostFits h → 51 ≤ length cells → hostOf (sets cells 0 (hostCells h)) ≡ h
+pub host-back : (h : Host) (cells : List ℕ) → HostFits h → hostCount ≤ length cells → hostOf (sets cells 0 (hostCells h)) ≡ h
 host-back h cells fits room = ap hostOf (over (hostCells h) cells room) ∙ (λ i.
     record {
       mox = flag-back (h .mox) i;
@@ -119,13 +119,13 @@ host-back h cells fits room = ap hostOf (over (hostCells h) cells room) ∙ (λ 
     })
 
 -- a build writes the turn's cell alone: the host record that the cells are is the one that it was
-pub builder-back : (cells : List ℕ) (turn : ℕ) → turn < 256 → 52 ≤ length cells → builderOf (set cells 51 turn) ≡ record { host = hostOf cells; turn = turn }
+pub builder-back : (cells : List ℕ) (turn : ℕ) → turn < 256 → suc hostCount ≤ length cells → builderOf (set cells hostCount turn) ≡ record { host = hostOf cells; turn = turn }
 builder-back cells turn fits room =
-    let first = tab 51 (λ k. getD cells k 0) in
-    let last = getD cells 51 0 ∷ drop 52 cells in
+    let first = tab hostCount (λ k. getD cells k 0) in
+    let last = getD cells hostCount 0 ∷ drop (suc hostCount) cells in
     let parted : cells ≡ first ++ last =
-    sym (take-append-drop 51 cells) ∙ ap₂ _++_ (sym (tab-getD 51 cells 0 (omega arith))) (drop-cons cells 51 0 (omega arith)) in
-    subst⁻¹ (λ (l : List ℕ). builderOf (set l 51 turn) ≡ record { host = hostOf l; turn = turn }) parted
+    sym (take-append-drop hostCount cells) ∙ ap₂ _++_ (sym (tab-getD hostCount cells 0 (omega arith))) (drop-cons cells hostCount 0 (omega arith)) in
+    subst⁻¹ (λ (l : List ℕ). builderOf (set l hostCount turn) ≡ record { host = hostOf l; turn = turn }) parted
     (λ i. record { host = hostOf (first ++ last); turn = mod-eq-of-lt fits i })
 
 pub stream-back : (s : Stream) (counts held : List ℕ) → length (s .held) ≡ 514 → 4 ≤ length counts → 514 ≤ length held → streamOf (sets counts 0 (countsOf s)) (sets held 0 (s .held)) ≡ s

@@ -11,7 +11,7 @@ use Rattle.wire.specs.declared.Answer.{Answer}
 use Rattle.host.specs.Build.{buildOf}
 use Rattle.host.specs.Read.{readOf}
 use Rattle.capi.specs.Cells.{within, badState}
-use Rattle.capi.specs.Host.{hostMost, builderMost, hostOf, builderOf}
+use Rattle.capi.specs.Host.{hostCount, hostMost, builderMost, hostOf, builderOf}
 use Rattle.capi.specs.HostCalls.{gave, shown, hostReadOf, built, turned, numbered, hostBuildOf}
 
 module _ (frame : List ℕ) (audio : List ℤ) (cells : List ℕ) where
@@ -36,5 +36,5 @@ module _ (answer : Answer) (turn : ℕ) (cells : List ℕ) where
   pub turned-refused : (numberOf answer ≡ 0 → ⊥) → turned answer turn cells ≡ cells
   turned-refused not-accepted = rw (ne-eqb (numberOf answer) 0 not-accepted)
 
-  pub turned-accepted : numberOf answer ≡ 0 → turned answer turn cells ≡ set cells 51 turn
+  pub turned-accepted : numberOf answer ≡ 0 → turned answer turn cells ≡ set cells hostCount turn
   turned-accepted accepted = rw (eq-eqb (numberOf answer) 0 accepted)

@@ -13,11 +13,12 @@ use Rattle.wire.proofs.First.{only-accepted}
 use Rattle.radio.specs.Read as Radio
 use Rattle.host.specs.Build as Build
 use Rattle.host.specs.Read as Host
+use Rattle.host.specs.Words.{lastWord}
 use Rattle.host.proofs.BuildCases.{accepted-ready, build-accepted, build-answer}
 use Rattle.stream.specs.Feed as Feed
 use Rattle.capi.specs.Cells.{within, number}
 use Rattle.capi.specs.Status.{statusMost, statusOf, statusCells}
-use Rattle.capi.specs.Host.{hostMost, builderMost, hostOf, hostCells, builderOf}
+use Rattle.capi.specs.Host.{hostCount, hostMost, builderMost, hostOf, hostCells, builderOf}
 use Rattle.capi.specs.HostCalls as door-host
 use Rattle.capi.specs.Radio as door-radio
 use Rattle.capi.specs.Stream as door-stream
@@ -52,8 +53,8 @@ module _ (cells : List ℕ) (audio : List ℤ) (frame : List ℕ) (record-held :
   abbrev built : Build.Outcome
   built = Build.buildOf (builderOf cells) audio frame
 
-  next-fits : (turn : ℕ) → turn ≤ 9 → Build.nextTurn turn < 256
-  next-fits turn few = by-test (eqb turn 9) (λ last. rw last (omega arith)) (λ before. rw before (omega arith))
+  next-fits : (turn : ℕ) → turn ≤ lastWord → Build.nextTurn turn < 256
+  next-fits turn few = by-test (eqb turn lastWord) (λ last. rw last (omega arith)) (λ before. rw before (omega arith))
 
   pub build-leaves : numberOf (built .answer) ≡ 0 → builderOf (door-host.hostBuildOf cells audio frame .builder) ≡ built .builder
   build-leaves accepted =
@@ -61,7 +62,7 @@ module _ (cells : List ℕ) (audio : List ℤ) (frame : List ℕ) (record-held :
       let passed = only-accepted (first (Build.refusals (builderOf cells) (length audio) (length frame))) (ap numberOf (sym tested) ∙ accepted) in
       let made = build-accepted (builderOf cells) audio frame passed in
       let next : built .builder .turn < 256 =
-      subst⁻¹ (λ (k : ℕ). k < 256) (ap (λ (o : Build.Outcome). o .builder .turn) made) (next-fits (number 8 cells 51) (accepted-ready (builderOf cells) (length audio) (length frame) passed .turn)) in
+      subst⁻¹ (λ (k : ℕ). k < 256) (ap (λ (o : Build.Outcome). o .builder .turn) made) (next-fits (number 8 cells hostCount) (accepted-ready (builderOf cells) (length audio) (length frame) passed .turn)) in
       ap (λ (o : door-host.Done). builderOf (o .builder)) (host-cases.build-good cells audio frame record-held)
       ∙ ap builderOf (host-cases.turned-accepted (built .answer) (built .builder .turn) cells accepted)
       ∙ builder-back cells (built .builder .turn) next (enough builderMost cells record-held)

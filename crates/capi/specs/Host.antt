@@ -14,6 +14,10 @@ use Rattle.capi.specs.Cells.{flag, number, cellOf}
 use Rattle.capi.specs.declared.host_cells.Choices.{Choices}
 use Rattle.capi.specs.declared.host_cells.Codes.{Codes}
 
+-- the number of its cells, and so the place of the turn after them
+abbrev pub hostCount : ℕ
+hostCount = 51
+
 -- the most that a frequency can be
 abbrev pub any : ℕ
 any = 2 ^ 32 - 1
@@ -129,4 +133,4 @@ abbrev pub hostCells : Host → List ℕ
 hostCells h = word0Cells h (codesOf h) (h .outputs) (h .receivers) ++ tunedCells h ++ word9Cells (h .controls) (h .highpass) (h .lowpass)
 
 abbrev pub builderOf : List ℕ → Builder
-builderOf cs = record { host = hostOf cs; turn = number 8 cs 51 }
+builderOf cs = record { host = hostOf cs; turn = number 8 cs hostCount }

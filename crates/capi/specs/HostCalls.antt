@@ -10,7 +10,7 @@ use Rattle.wire.specs.declared.Answer.{Answer}
 use Rattle.host.specs.Build as Build
 use Rattle.host.specs.Read as Read
 use Rattle.capi.specs.Cells.{within, got, badState, kept}
-use Rattle.capi.specs.Host.{builderMost, hostMost, hostOf, hostCells, builderOf}
+use Rattle.capi.specs.Host.{hostCount, builderMost, hostMost, hostOf, hostCells, builderOf}
 
 -- what a read leaves: the number returned, and every lent slice at exit
 pub record Outcome : Type 0 where
@@ -40,7 +40,7 @@ built k builder frame = record { number = k; builder = builder; frame = frame }
 
 -- a build changes the turn alone, and a refused one nothing
 abbrev pub turned : Answer → ℕ → List ℕ → List ℕ
-turned answer turn cells = cond (accepts answer) (set cells 51 turn) cells
+turned answer turn cells = cond (accepts answer) (set cells hostCount turn) cells
 
 abbrev pub numbered : List ℕ → Build.Outcome → Done
 numbered cells o = built (numberOf (o .answer)) (turned (o .answer) (o .builder .turn) cells) (o .frame)

@@ -4,6 +4,7 @@ use crate::cells::offer;
 use crate::cells::put;
 use crate::cells::settle;
 use crate::cells::within;
+use crate::host_cells::HOST;
 use crate::host_cells::MOST;
 use crate::host_cells::builder_of;
 use crate::host_cells::host_cells;
@@ -13,19 +14,19 @@ use host::Reading;
 use host::record::Host;
 ghost use mathlib.Core.Path.{_≡_};
 ghost use mathlib.Core.List.{[], _∷_, _++_};
-ghost use Prim.Native.Nat.{_≤_};
+ghost use Prim.Native.Nat.{suc, _≤_};
 ghost use lib.ListN.{length};
 ghost use Rattle.wire.specs.Answers.{numberOf};
 ghost use Rattle.host.specs.Record.{fresh};
 ghost use Rattle.capi.specs.Cells.{got, kept, wrote, offered};
-ghost use Rattle.capi.specs.Host.{hostCells};
+ghost use Rattle.capi.specs.Host.{hostCount, hostCells};
 ghost use Rattle.capi.specs.HostCalls.{gave, built, hostReadOf, turned, hostBuildOf};
 
 #[no_mangle]
 pub extern "C" fn hpsdr_host_read(frame: &[u8], audio: &mut [i16], host: &mut [u32]) -> u32
     ensures { λ r. ⌜ gave r (now (host .exit)) (now (audio .exit)) ≡ hostReadOf (now (frame .entry)) (now (audio .entry)) (now (host .entry)) ⌝ }
 {
-    if !within(&MOST[..51], host) {
+    if !within(&MOST[..HOST], host) {
         return BAD_STATE;
     }
     let given = host_of(host);
@@ -35,7 +36,7 @@ pub extern "C" fn hpsdr_host_read(frame: &[u8], audio: &mut [i16], host: &mut [u
 
 // What a read returns; accepted, the record after it stands in the cells.
 pub(crate) fn keep(reading: Reading, cells: &mut [u32]) -> u32
-    requires { ⌜ 51 ≤ length (now cells) ⌝ }
+    requires { ⌜ hostCount ≤ length (now cells) ⌝ }
     ensures { λ r. ⌜ r ≡ got (numberOf (reading .answer)) (reading .address) ⌝ }
     ensures { λ _. ⌜ now (cells .exit) ≡ kept (reading .answer) (hostCells (reading .host)) (now (cells .entry)) ⌝ }
 {
@@ -58,7 +59,7 @@ pub extern "C" fn hpsdr_build(builder: &mut [u32], audio: &[i16], frame: &mut [u
 
 // What a build returns; accepted, the next turn stands in its cell. A build changes nothing else of its builder.
 pub(crate) fn turn_on(done: Built, cells: &mut [u32]) -> u32
-    requires { ⌜ 52 ≤ length (now cells) ⌝ }
+    requires { ⌜ suc hostCount ≤ length (now cells) ⌝ }
     ensures { λ r. ⌜ r ≡ numberOf (done .answer) ⌝ }
     ensures { λ _. ⌜ now (cells .exit) ≡ turned (done .answer) (done .builder .turn) (now (cells .entry)) ⌝ }
 {
@@ -69,7 +70,7 @@ pub(crate) fn turn_on(done: Built, cells: &mut [u32]) -> u32
     if number != 0 {
         return number as u32;
     }
-    cells[51] = turn as u32;
+    cells[HOST] = turn as u32;
     number as u32
 }
 
@@ -90,10 +91,10 @@ pub extern "C" fn hpsdr_builder_fresh(builder: &mut [u32]) -> u32
 }
 
 // A host record's cells, and turn 0 after them.
-pub(crate) fn with_turn(host: &[u32; 51]) -> [u32; 52]
+pub(crate) fn with_turn(host: &[u32; HOST]) -> [u32; HOST + 1]
     ensures { λ r. ⌜ r ≡ now (host .entry) ++ (0 ∷ []) ⌝ }
 {
-    let mut cells = [0u32; 52];
+    let mut cells = [0u32; HOST + 1];
     put(&mut cells, 0, host);
     cells
 }

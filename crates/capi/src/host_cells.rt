@@ -15,11 +15,14 @@ use host::record::Source122;
 use host::record::Speed;
 ghost use mathlib.Core.Path.{_≡_};
 ghost use mathlib.Core.List.{_++_};
-ghost use Prim.Native.Nat.{_≤_};
+ghost use Prim.Native.Nat.{suc, _≤_};
 ghost use lib.ListN.{length};
-ghost use Rattle.capi.specs.Host.{source10Of, relayOf, controlsOf, highpassOf, lowpassOf, choicesOf, hostWith, hostOf, codesOf, word0Cells, tunedCells, word9Cells, hostCells, builderOf};
+ghost use Rattle.capi.specs.Host.{hostCount, source10Of, relayOf, controlsOf, highpassOf, lowpassOf, choicesOf, hostWith, hostOf, codesOf, word0Cells, tunedCells, word9Cells, hostCells, builderOf};
 
-pub(crate) const MOST: [u32; 52] = [
+// The number of its cells, and so the place of the turn after them.
+pub(crate) const HOST: usize = 51;
+
+pub(crate) const MOST: [u32; HOST + 1] = [
     1,
     3,
     2,
@@ -96,7 +99,7 @@ pub(crate) fn relay_of(code: u32) -> Relay
 }
 
 pub(crate) fn controls_of(cells: &[u32]) -> Controls
-    requires { ⌜ 51 ≤ length (now cells) ⌝ }
+    requires { ⌜ hostCount ≤ length (now cells) ⌝ }
     ensures { λ r. ⌜ r ≡ controlsOf (now (cells .entry)) ⌝ }
 {
     Controls {
@@ -112,7 +115,7 @@ pub(crate) fn controls_of(cells: &[u32]) -> Controls
 }
 
 pub(crate) fn highpass_of(cells: &[u32]) -> HighPass
-    requires { ⌜ 51 ≤ length (now cells) ⌝ }
+    requires { ⌜ hostCount ≤ length (now cells) ⌝ }
     ensures { λ r. ⌜ r ≡ highpassOf (now (cells .entry)) ⌝ }
 {
     HighPass {
@@ -128,7 +131,7 @@ pub(crate) fn highpass_of(cells: &[u32]) -> HighPass
 }
 
 pub(crate) fn lowpass_of(cells: &[u32]) -> LowPass
-    requires { ⌜ 51 ≤ length (now cells) ⌝ }
+    requires { ⌜ hostCount ≤ length (now cells) ⌝ }
     ensures { λ r. ⌜ r ≡ lowpassOf (now (cells .entry)) ⌝ }
 {
     LowPass {
@@ -155,7 +158,7 @@ pub(crate) struct Choices {
 }
 
 pub(crate) fn choices_of(cells: &[u32]) -> Choices
-    requires { ⌜ 51 ≤ length (now cells) ⌝ }
+    requires { ⌜ hostCount ≤ length (now cells) ⌝ }
     ensures { λ r. ⌜ r ≡ choicesOf (now (cells .entry)) ⌝ }
 {
     Choices {
@@ -171,7 +174,7 @@ pub(crate) fn choices_of(cells: &[u32]) -> Choices
 }
 
 pub(crate) fn host_of(cells: &[u32]) -> Host
-    requires { ⌜ 51 ≤ length (now cells) ⌝ }
+    requires { ⌜ hostCount ≤ length (now cells) ⌝ }
     ensures { λ r. ⌜ r ≡ hostOf (now (cells .entry)) ⌝ }
 {
     let chosen = choices_of(cells);
@@ -188,7 +191,7 @@ pub(crate) fn host_with(
     highpass: HighPass,
     lowpass: LowPass,
 ) -> Host
-    requires { ⌜ 51 ≤ length (now cells) ⌝ }
+    requires { ⌜ hostCount ≤ length (now cells) ⌝ }
     ensures { λ r. ⌜ r ≡ hostWith (now (cells .entry)) chosen controls highpass lowpass ⌝ }
 {
     let speed = chosen.speed;
@@ -344,7 +347,7 @@ pub(crate) fn word9_cells(controls: Controls, highpass: HighPass, lowpass: LowPa
     ]
 }
 
-pub(crate) fn host_cells(host: Host) -> [u32; 51]
+pub(crate) fn host_cells(host: Host) -> [u32; HOST]
     ensures { λ r. ⌜ r ≡ hostCells host ⌝ }
 {
     let word0 = word0_cells(host, codes_of(host), host.outputs, host.receivers);
@@ -354,10 +357,10 @@ pub(crate) fn host_cells(host: Host) -> [u32; 51]
 }
 
 // Three parts of a record, one after another.
-pub(crate) fn joined(word0: &[u32; 19], tuned: &[u32; 9], word9: &[u32; 23]) -> [u32; 51]
+pub(crate) fn joined(word0: &[u32; 19], tuned: &[u32; 9], word9: &[u32; 23]) -> [u32; HOST]
     ensures { λ r. ⌜ r ≡ now (word0 .entry) ++ now (tuned .entry) ++ now (word9 .entry) ⌝ }
 {
-    let mut cells = [0u32; 51];
+    let mut cells = [0u32; HOST];
     put(&mut cells, 0, word0);
     put(&mut cells, 19, tuned);
     put(&mut cells, 28, word9);
@@ -365,11 +368,11 @@ pub(crate) fn joined(word0: &[u32; 19], tuned: &[u32; 9], word9: &[u32; 23]) -> 
 }
 
 pub(crate) fn builder_of(cells: &[u32]) -> Builder
-    requires { ⌜ 52 ≤ length (now cells) ⌝ }
+    requires { ⌜ suc hostCount ≤ length (now cells) ⌝ }
     ensures { λ r. ⌜ r ≡ builderOf (now (cells .entry)) ⌝ }
 {
     Builder {
         host: host_of(cells),
-        turn: (cells[51] % 256) as u8,
+        turn: (cells[HOST] % 256) as u8,
     }
 }

@@ -1,12 +1,12 @@
 -- Which fields a word's number picks in `heard`: the tests of a receiver's word, and of an unlisted one. Assumes nothing.
 use mathlib.Core.Path.{_≡_}
 use mathlib.Core.Bool.{true, false}
-use Prim.Native.Nat.{ℕ, _≤_}
+use Prim.Native.Nat.{ℕ, suc, _<_, _≤_}
 use native.Mathlib.Omega.{arith}
 use borrow.Author.Tests.{ne-eqb, le-leb, lt-leb, leb-true}
 use lib.Dec.{eqb, leb}
 use Rattle.wire.proofs.Cases.{both-true}
-use Rattle.host.specs.Words.{tunes, heard}
+use Rattle.host.specs.Words.{lastWord, tunes, heard}
 use Rattle.host.specs.declared.record.Host.{Host}
 use Rattle.host.specs.declared.words.Control.{Control}
 
@@ -32,7 +32,7 @@ pub past-tunes : (a : ℕ) → 9 ≤ a → tunes a ≡ false
 past-tunes a above = let from : 2 ≤ a = omega arith in rw (le-leb 2 a from, lt-leb a 8 above)
 
 -- all unlisted words do the same
-pub unlisted-same : (a : ℕ) (c : Control) (h : Host) → 10 ≤ a → heard a c h ≡ heard 10 c h
+pub unlisted-same : (a : ℕ) (c : Control) (h : Host) → lastWord < a → heard a c h ≡ heard (suc lastWord) c h
 unfolding heard
 unlisted-same a c h above =
     let other = tests a (omega arith) (omega arith) in

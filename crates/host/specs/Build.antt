@@ -14,6 +14,7 @@ use Rattle.host.specs.Sent.{headOf}
 use Rattle.host.specs.Words.{lastWord}
 use Rattle.host.specs.declared.Builder.{Builder}
 use Rattle.host.specs.declared.Built.{Built}
+use Rattle.host.specs.declared.record.Host.{Host}
 
 -- "A fresh one is what all-zero words give (one receiver), its turn 0"
 abbrev pub freshBuilder : Builder
@@ -24,8 +25,12 @@ abbrev pub nextTurn : ℕ → ℕ
 nextTurn turn = cond (eqb turn lastWord) 0 (turn + 1)
 
 -- "A build tests the whole record, whichever word is due"
-abbrev pub ranges : ℕ → ℕ → List Test
-ranges outputs receivers = ltb 127 outputs gives Range ∷ ltb receivers 1 gives Range ∷ ltb 8 receivers gives Range ∷ []
+abbrev pub ranges : Host → List Test
+ranges h =
+    ltb 127 (h .outputs) gives Range
+    ∷ ltb (h .receivers) 1 gives Range
+    ∷ ltb 8 (h .receivers) gives Range
+    ∷ []
 
 -- in the order of the table; `room` is the length of the frame, `count` that of the sample slice
 abbrev pub refusals : Builder → ℕ → ℕ → List Test
@@ -33,7 +38,7 @@ refusals b count room =
     ltb lastWord (b .turn) gives BadState
     ∷ not (eqb room 512) gives Length
     ∷ ltb count 252 gives ShortBuffer
-    ∷ ranges (b .host .outputs) (b .host .receivers)
+    ∷ ranges (b .host)
 
 -- all that a caller has afterwards
 pub record Outcome : Type 0 where

@@ -14,6 +14,7 @@ ghost use Prim.Native.Nat.{_≤_};
 ghost use Rattle.wire.specs.Answers.{first};
 ghost use Rattle.host.specs.Build.{refusals as unfit, gave as built, buildOf, freshBuilder, ranges, nextTurn};
 ghost use Rattle.host.specs.Read.{refusals, gave, readOf};
+ghost use Rattle.host.specs.Words.{lastWord};
 use record::Host;
 use samples::read_slots;
 use samples::write_numbers;
@@ -70,6 +71,9 @@ pub(crate) fn refusal(frame: &[u8], room: usize) -> Answer
     }
 }
 
+// The last of the listed words, after which the turn is 0 again.
+const LAST_WORD: u8 = 9;
+
 // A host record and the word that is due, 0 to 9.
 pub struct Builder {
     pub host: Host,
@@ -119,8 +123,7 @@ impl Builder {
     pub(crate) fn obstacle(self, count: usize, room: usize) -> Answer
         ensures { λ r. ⌜ r ≡ first (unfit self count room) ⌝ }
     {
-        let host = self.host;
-        if 9 < self.turn {
+        if LAST_WORD < self.turn {
             return Answer::BadState;
         }
         if room != 512 {
@@ -129,13 +132,15 @@ impl Builder {
         if count < 252 {
             return Answer::ShortBuffer;
         }
-        out_of_range(host.outputs, host.receivers)
+        out_of_range(self.host)
     }
 }
 
-pub(crate) fn out_of_range(outputs: u8, receivers: u8) -> Answer
-    ensures { λ r. ⌜ r ≡ first (ranges outputs receivers) ⌝ }
+pub(crate) fn out_of_range(host: Host) -> Answer
+    ensures { λ r. ⌜ r ≡ first (ranges host) ⌝ }
 {
+    let outputs = host.outputs;
+    let receivers = host.receivers;
     if 127 < outputs {
         return Answer::Range;
     }
@@ -149,8 +154,8 @@ pub(crate) fn out_of_range(outputs: u8, receivers: u8) -> Answer
 }
 
 pub(crate) fn turn_after(turn: u8) -> u8
-    requires { ⌜ turn ≤ 9 ⌝ }
+    requires { ⌜ turn ≤ lastWord ⌝ }
     ensures { λ r. ⌜ r ≡ nextTurn turn ⌝ }
 {
-    if turn == 9 { 0 } else { turn + 1 }
+    if turn == LAST_WORD { 0 } else { turn + 1 }
 }

@@ -4,6 +4,7 @@ ghost use mathlib.Core.List.{_++_};
 ghost use Prim.Native.Nat.{_≤_};
 ghost use lib.ListN.{length, drop};
 ghost use Rattle.host.specs.Sent.{InRange, c1Of, c2Of, c3Of, c4Of, settingsBytes, switchesBytes, said, headOf};
+ghost use Rattle.host.specs.Words.{lastWord};
 use crate::record::Host;
 use wire::fields::eight_flags;
 use wire::fields::flag_of;
@@ -12,7 +13,7 @@ use wire::sync::put_header;
 
 // Sync and C0 to C4 over the start of a frame.
 pub(crate) fn put_head(frame: &mut [u8], turn: u8, host: Host)
-    requires { ⌜ (8 ≤ length (now frame)) × (turn ≤ 9) × InRange host ⌝ }
+    requires { ⌜ (8 ≤ length (now frame)) × (turn ≤ lastWord) × InRange host ⌝ }
     ensures { λ r. ⌜ now (frame .exit) ≡ headOf turn host ++ drop 8 (now (frame .entry)) ⌝ }
 {
     let c0 = flag_of(host.mox) + turn * 2;

@@ -1,9 +1,9 @@
 // The control bytes C0 to C4 of a frame, and the record after the word that they carry.
 ghost use mathlib.Core.Path.{_≡_};
-ghost use Prim.Native.Nat.{_≤_};
+ghost use Prim.Native.Nat.{suc, _≤_};
 ghost use lib.ListN.{length};
 ghost use Rattle.wire.specs.Answers.{first};
-ghost use Rattle.host.specs.Words.{source10Or, relayOr, controlsOf, highpassOf, lowpassOf, controlOf, unassigned, heard, after};
+ghost use Rattle.host.specs.Words.{source10Or, relayOr, controlsOf, highpassOf, lowpassOf, controlOf, unassigned, lastWord, heard, after};
 use crate::record::Antenna;
 use crate::record::Attenuator;
 use crate::record::Boards;
@@ -155,7 +155,7 @@ pub(crate) fn switches(c: Control, mut host: Host) -> Host
 }
 
 pub(crate) fn unlisted(c: Control, mut host: Host) -> Host
-    ensures { λ r. ⌜ r ≡ heard 10 c host ⌝ }
+    ensures { λ r. ⌜ r ≡ heard (suc lastWord) c host ⌝ }
 {
     host.mox = c.c0 % 2 == 1;
     host

@@ -1,13 +1,13 @@
 -- `hpsdr_build` meets its contract: cells that are no builder, or the build of the builder that they are. Assumes nothing.
 use mathlib.Core.Path.{_≡_, sym, ap, _∙_}
 use mathlib.Core.Bool.{true}
-use Prim.Native.Nat.{_≤_}
+use Prim.Native.Nat.{suc, _≤_}
 use borrow.Author.Tests.{not-true, not-false}
 use denote.Ref.{now}
 use lib.ListN.{length}
 use Rattle.host.specs.Build.{buildOf}
 use Rattle.capi.specs.Cells.{within}
-use Rattle.capi.specs.Host.{builderMost}
+use Rattle.capi.specs.Host.{hostCount, builderMost}
 use Rattle.capi.specs.HostCalls.{built, numbered}
 use Rattle.capi.proofs.Cases.{enough}
 use Rattle.capi.proofs.HostCases.{build-bad, build-good}
@@ -18,7 +18,7 @@ use Rattle.capi.proofs.host_calls.hpsdr_build.Tie as tie
 fits : (c : tie.Else1) → within builderMost (now (c .before .before .before .before .before .before .args .builder)) ≡ true
 fits c = sym (c .before .within .ensures) ∙ not-false _ (c .if1 .left)
 
-has-room : (c : tie.Else1) → 52 ≤ length (now (c .before .before .before .before .before .before .args .builder))
+has-room : (c : tie.Else1) → suc hostCount ≤ length (now (c .before .before .before .before .before .before .args .builder))
 has-room c = enough builderMost (now (c .before .before .before .before .before .before .args .builder)) (fits c)
 
 slice-aggregate-within : tie.Need-slice-aggregate-within

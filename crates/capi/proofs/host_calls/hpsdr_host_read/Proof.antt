@@ -7,7 +7,7 @@ use denote.Ref.{now}
 use lib.ListN.{length}
 use Rattle.host.specs.Read.{readOf}
 use Rattle.capi.specs.Cells.{within}
-use Rattle.capi.specs.Host.{hostMost}
+use Rattle.capi.specs.Host.{hostCount, hostMost}
 use Rattle.capi.specs.HostCalls.{gave, shown}
 use Rattle.capi.proofs.Cases.{enough}
 use Rattle.capi.proofs.HostCases.{read-bad, read-good}
@@ -18,7 +18,7 @@ use Rattle.capi.proofs.host_calls.hpsdr_host_read.Tie as tie
 fits : (c : tie.Else1) → within hostMost (now (c .before .before .before .before .before .before .args .host)) ≡ true
 fits c = sym (c .before .within .ensures) ∙ not-false _ (c .if1 .left)
 
-has-room : (c : tie.Else1) → 51 ≤ length (now (c .before .before .before .before .before .before .args .host))
+has-room : (c : tie.Else1) → hostCount ≤ length (now (c .before .before .before .before .before .before .args .host))
 has-room c = enough hostMost (now (c .before .before .before .before .before .before .args .host)) (fits c)
 
 array-share-prefix-within : tie.Need-array-share-prefix-within

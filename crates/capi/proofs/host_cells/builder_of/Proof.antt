@@ -6,6 +6,7 @@ use lib.ListN.{getD}
 use Rattle.host.specs.declared.Builder.{Builder}
 use Rattle.host.specs.declared.record.Host.{Host}
 use borrow.Author.Needs.{needs}
+use Rattle.capi.specs.Host.{hostCount}
 use Rattle.capi.proofs.host_cells.builder_of.Statement.{statement}
 use Rattle.capi.proofs.host_cells.builder_of.Tie as tie
 
@@ -24,7 +25,7 @@ returns c =
     ap built (c .before .host-of .ensures)
   where
     built : Host → Builder
-    built h = record { host = h; turn = getD (now (c .before .before .before .args .cells)) 51 0 % 256 }
+    built h = record { host = h; turn = getD (now (c .before .before .before .args .cells)) hostCount 0 % 256 }
 
 pub builder-of-spec : {M : Type 1} → statement M
 builder-of-spec = tie.close (tie.spec host-of-requires shared-slice-read-t4 cast-t6 returns)

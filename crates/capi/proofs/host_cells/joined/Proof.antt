@@ -6,6 +6,7 @@ use lib.ListN.{length, replicate}
 use lib.Seq.{sets}
 use Rattle.capi.proofs.Joined.{three-parts}
 use borrow.Author.Needs.{needs}
+use Rattle.capi.specs.Host.{hostCount}
 use Rattle.capi.proofs.host_cells.joined.Statement.{statement}
 use Rattle.capi.proofs.host_cells.joined.Tie as tie
 
@@ -37,7 +38,7 @@ returns c =
     let word9-long : length (now (given .word9)) ≡ 23 = search needs in
     c .before .put3 .ensures
     ∙ ap (λ l. sets l 28 (now (given .word9))) (second .put2 .ensures ∙ ap (λ l. sets l 19 (now (given .tuned))) (first .put .ensures))
-    ∙ three-parts (replicate 51 0) (now (given .word0)) (now (given .tuned)) (now (given .word9)) 19 28 word0-long (ap (λ k. 19 + k) tuned-long) (ap (λ k. 28 + k) word9-long)
+    ∙ three-parts (replicate hostCount 0) (now (given .word0)) (now (given .tuned)) (now (given .word9)) 19 28 word0-long (ap (λ k. 19 + k) tuned-long) (ap (λ k. 28 + k) word9-long)
 
 pub joined-spec : {M : Type 1} → statement M
 joined-spec =
