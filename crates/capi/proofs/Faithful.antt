@@ -15,8 +15,8 @@ use Rattle.radio.specs.declared.record.Status.{Status}
 use Rattle.host.specs.Record.{Seven}
 use Rattle.host.specs.declared.record.Host.{Host}
 use Rattle.stream.specs.declared.Stream.{Stream}
-use Rattle.host.proofs.Codes.{ThereAndBack, speed-codes, source122-codes, boards-codes, microphone-codes, attenuator-codes, antenna-codes}
-use Rattle.host.specs.Choices.{speedCode, speedOf, source10Code, source122Code, source122Of, boardsCode, boardsOf, microphoneCode, microphoneOf, attenuatorCode, attenuatorOf, antennaCode, antennaOf, relayCode}
+use Rattle.host.proofs.Codes.{ThereAndBack, speed-codes, source122-codes, boards-codes, microphone-codes, attenuator-codes, antenna-codes, jack-codes}
+use Rattle.host.specs.Choices.{speedCode, speedOf, source10Code, source122Code, source122Of, boardsCode, boardsOf, microphoneCode, microphoneOf, attenuatorCode, attenuatorOf, antennaCode, antennaOf, relayCode, jackCode, jackOf}
 use Rattle.host.specs.declared.record.Relay.{Relay}
 use Rattle.host.specs.declared.record.Source10.{Source10}
 use Rattle.wire.proofs.Lists.{tab-getD}
@@ -83,6 +83,10 @@ pub record HostFits (h : Host) : Type 0 where
   pub outputs : h .outputs < 256
   pub receivers : h .receivers < 256
   pub drive : h .drive < 256
+  pub gain : h .front .gain < 256
+  pub top : h .front .c2top < 256
+  pub c3 : h .front .c3 < 256
+  pub c4 : h .front .c4 < 256
   pub seven : Seven h
 
 seven-back : (hz : List ℕ) → length hz ≡ 7 → getD hz 0 0 ∷ getD hz 1 0 ∷ getD hz 2 0 ∷ getD hz 3 0 ∷ getD hz 4 0 ∷ getD hz 5 0 ∷ getD hz 6 0 ∷ [] ≡ hz
@@ -116,6 +120,19 @@ host-back h cells fits room = ap hostOf (over (hostCells h) cells room) ∙ (λ 
       controls = record { boost = flag-back (h .controls .boost) i; linein = flag-back (h .controls .linein) i; filter = flag-back (h .controls .filter) i; tuner = flag-back (h .controls .tuner) i; tune = flag-back (h .controls .tune) i; board = flag-back (h .controls .board) i; manual = flag-back (h .controls .manual) i; vna = flag-back (h .controls .vna) i };
       highpass = record { mhz13 = flag-back (h .highpass .mhz13) i; mhz20 = flag-back (h .highpass .mhz20) i; mhz9 = flag-back (h .highpass .mhz9) i; mhz6 = flag-back (h .highpass .mhz6) i; mhz1 = flag-back (h .highpass .mhz1) i; bypass = flag-back (h .highpass .bypass) i; amplifier = flag-back (h .highpass .amplifier) i; trdisabled = flag-back (h .highpass .trdisabled) i };
       lowpass = record { m30 = flag-back (h .lowpass .m30) i; m60 = flag-back (h .lowpass .m60) i; m80 = flag-back (h .lowpass .m80) i; m160 = flag-back (h .lowpass .m160) i; m6 = flag-back (h .lowpass .m6) i; m12 = flag-back (h .lowpass .m12) i; m17 = flag-back (h .lowpass .m17) i };
+      front = record {
+        preamp1 = flag-back (h .front .preamp1) i;
+        preamp2 = flag-back (h .front .preamp2) i;
+        preamp3 = flag-back (h .front .preamp3) i;
+        preamp4 = flag-back (h .front .preamp4) i;
+        jack = choice-back 2 jackCode jackOf jack-codes (omega arith) (h .front .jack) i;
+        bias = flag-back (h .front .bias) i;
+        pttdisabled = flag-back (h .front .pttdisabled) i;
+        gain = mod-eq-of-lt (fits .gain) i;
+        c2top = mod-eq-of-lt (fits .top) i;
+        c3 = mod-eq-of-lt (fits .c3) i;
+        c4 = mod-eq-of-lt (fits .c4) i;
+      };
     })
 
 -- a build writes the turn's cell alone: the host record that the cells are is the one that it was

@@ -11,8 +11,12 @@ module _ (cells a b : List ℕ) (at : ℕ) (first : length a ≡ at) where
   pub two-parts : sets (sets cells 0 a) at b ≡ sets cells 0 (a ++ b)
   two-parts = let place : at ≡ 0 + length a = omega (arith, first) in ap (λ k. sets (sets cells 0 a) k b) place ∙ sets-append cells 0 a b
 
-pub three-parts : (cells a b c : List ℕ) (at₁ at₂ : ℕ) → length a ≡ at₁ → at₁ + length b ≡ at₂ → at₂ + length c ≡ length cells → sets (sets (sets cells 0 a) at₁ b) at₂ c ≡ a ++ b ++ c
-three-parts cells a b c at₁ at₂ first second whole =
-    let before : length (a ++ b) ≡ at₂ = length-append a b ∙ omega (arith, first, second) in
-    let all : length (a ++ b ++ c) ≡ length cells = length-append (a ++ b) c ∙ omega (arith, before, whole) in
-    ap (λ l. sets l at₂ c) (two-parts cells a b at₁ first) ∙ two-parts cells (a ++ b) c at₂ before ∙ sets-all cells (a ++ b ++ c) all
+pub four-parts : (cells a b c d : List ℕ) (at₁ at₂ at₃ : ℕ) → length a ≡ at₁ → at₁ + length b ≡ at₂ → at₂ + length c ≡ at₃ → at₃ + length d ≡ length cells → sets (sets (sets (sets cells 0 a) at₁ b) at₂ c) at₃ d ≡ a ++ b ++ c ++ d
+four-parts cells a b c d at₁ at₂ at₃ first second third whole =
+    let two : length (a ++ b) ≡ at₂ = length-append a b ∙ omega (arith, first, second) in
+    let three : length (a ++ b ++ c) ≡ at₃ = length-append (a ++ b) c ∙ omega (arith, two, third) in
+    let all : length (a ++ b ++ c ++ d) ≡ length cells = length-append (a ++ b ++ c) d ∙ omega (arith, three, whole) in
+    ap (λ l. sets (sets l at₂ c) at₃ d) (two-parts cells a b at₁ first)
+    ∙ ap (λ l. sets l at₃ d) (two-parts cells (a ++ b) c at₂ two)
+    ∙ two-parts cells (a ++ b ++ c) d at₃ three
+    ∙ sets-all cells (a ++ b ++ c ++ d) all

@@ -1,12 +1,14 @@
--- The host record as 51 cells, in the order of its fields, and a builder as those and its turn. Assumes nothing.
+-- The host record as 62 cells, in the order of its fields, and a builder as those and its turn. Assumes nothing.
 use Prim.Native.Nat.{ℕ, zero, suc, _^_, _-_}
 use mathlib.Core.List.{List, [], _∷_, _++_}
 use lib.ListN.{getD}
-use Rattle.host.specs.Choices.{speedCode, speedOf, source10Code, source122Code, source122Of, boardsCode, boardsOf, microphoneCode, microphoneOf, attenuatorCode, attenuatorOf, antennaCode, antennaOf, relayCode}
+use Rattle.host.specs.Choices.{speedCode, speedOf, source10Code, source122Code, source122Of, boardsCode, boardsOf, microphoneCode, microphoneOf, attenuatorCode, attenuatorOf, antennaCode, antennaOf, relayCode, jackCode, jackOf}
 use Rattle.host.specs.declared.Builder.{Builder}
 use Rattle.host.specs.declared.record.Controls.{Controls}
+use Rattle.host.specs.declared.record.Front.{Front}
 use Rattle.host.specs.declared.record.HighPass.{HighPass}
 use Rattle.host.specs.declared.record.Host.{Host}
+use Rattle.host.specs.declared.record.Jack.{Jack}
 use Rattle.host.specs.declared.record.LowPass.{LowPass}
 use Rattle.host.specs.declared.record.Relay.{Relay}
 use Rattle.host.specs.declared.record.Source10.{Source10}
@@ -16,7 +18,7 @@ use Rattle.capi.specs.declared.host_cells.Codes.{Codes}
 
 -- the number of its cells, and so the place of the turn after them
 abbrev pub hostCount : ℕ
-hostCount = 51
+hostCount = 62
 
 -- the most that a frequency can be
 abbrev pub any : ℕ
@@ -26,7 +28,8 @@ abbrev pub hostMost : List ℕ
 hostMost =
     1 ∷ 3 ∷ 2 ∷ 1 ∷ 3 ∷ 1 ∷ 1 ∷ 255 ∷ 3 ∷ 1 ∷ 1 ∷ 1 ∷ 3 ∷ 1 ∷ 2 ∷ 1 ∷ 255 ∷ 1 ∷ 1
     ∷ any ∷ any ∷ any ∷ any ∷ any ∷ any ∷ any ∷ any ∷ 255
-    ∷ 1 ∷ 1 ∷ 1 ∷ 1 ∷ 1 ∷ 1 ∷ 1 ∷ 1 ∷ 1 ∷ 1 ∷ 1 ∷ 1 ∷ 1 ∷ 1 ∷ 1 ∷ 1 ∷ 1 ∷ 1 ∷ 1 ∷ 1 ∷ 1 ∷ 1 ∷ 1 ∷ []
+    ∷ 1 ∷ 1 ∷ 1 ∷ 1 ∷ 1 ∷ 1 ∷ 1 ∷ 1 ∷ 1 ∷ 1 ∷ 1 ∷ 1 ∷ 1 ∷ 1 ∷ 1 ∷ 1 ∷ 1 ∷ 1 ∷ 1 ∷ 1 ∷ 1 ∷ 1 ∷ 1
+    ∷ 1 ∷ 1 ∷ 1 ∷ 1 ∷ 1 ∷ 1 ∷ 1 ∷ 255 ∷ 255 ∷ 255 ∷ 255 ∷ []
 
 abbrev pub builderMost : List ℕ
 builderMost = hostMost ++ (255 ∷ [])
@@ -52,6 +55,22 @@ highpassOf cs = record { mhz13 = flag cs 36; mhz20 = flag cs 37; mhz9 = flag cs 
 abbrev pub lowpassOf : List ℕ → LowPass
 lowpassOf cs = record { m30 = flag cs 44; m60 = flag cs 45; m80 = flag cs 46; m160 = flag cs 47; m6 = flag cs 48; m12 = flag cs 49; m17 = flag cs 50 }
 
+abbrev pub frontOf : List ℕ → Jack → Front
+frontOf cs jack =
+    record {
+      preamp1 = flag cs 51;
+      preamp2 = flag cs 52;
+      preamp3 = flag cs 53;
+      preamp4 = flag cs 54;
+      jack = jack;
+      bias = flag cs 56;
+      pttdisabled = flag cs 57;
+      gain = number 8 cs 58;
+      c2top = number 8 cs 59;
+      c3 = number 8 cs 60;
+      c4 = number 8 cs 61;
+    }
+
 abbrev pub choicesOf : List ℕ → Choices
 choicesOf cs =
     record {
@@ -63,10 +82,11 @@ choicesOf cs =
       attenuator = attenuatorOf (number 8 cs 8);
       antenna = antennaOf (number 8 cs 12);
       relay = relayOf (getD cs 14 0);
+      jack = jackOf (number 8 cs 55);
     }
 
-abbrev pub hostWith : List ℕ → Choices → Controls → HighPass → LowPass → Host
-hostWith cs chosen controls highpass lowpass =
+abbrev pub hostWith : List ℕ → Choices → Controls → HighPass → LowPass → Front → Host
+hostWith cs chosen controls highpass lowpass front =
     record {
       mox = flag cs 0;
       speed = chosen .speed;
@@ -93,10 +113,11 @@ hostWith cs chosen controls highpass lowpass =
       controls = controls;
       highpass = highpass;
       lowpass = lowpass;
+      front = front;
     }
 
 abbrev pub hostOf : List ℕ → Host
-hostOf cs = hostWith cs (choicesOf cs) (controlsOf cs) (highpassOf cs) (lowpassOf cs)
+hostOf cs = hostWith cs (choicesOf cs) (controlsOf cs) (highpassOf cs) (lowpassOf cs) (frontOf cs (choicesOf cs .jack))
 
 abbrev pub codesOf : Host → Codes
 codesOf h =
@@ -109,6 +130,7 @@ codesOf h =
       attenuator = attenuatorCode (h .attenuator);
       antenna = antennaCode (h .antenna);
       relay = relayCode (h .relay);
+      jack = jackCode (h .front .jack);
     }
 
 abbrev pub word0Cells : Host → Codes → ℕ → ℕ → List ℕ
@@ -129,8 +151,17 @@ word9Cells c hp lp =
     ∷ cellOf (hp .mhz13) ∷ cellOf (hp .mhz20) ∷ cellOf (hp .mhz9) ∷ cellOf (hp .mhz6) ∷ cellOf (hp .mhz1) ∷ cellOf (hp .bypass) ∷ cellOf (hp .amplifier) ∷ cellOf (hp .trdisabled)
     ∷ cellOf (lp .m30) ∷ cellOf (lp .m60) ∷ cellOf (lp .m80) ∷ cellOf (lp .m160) ∷ cellOf (lp .m6) ∷ cellOf (lp .m12) ∷ cellOf (lp .m17) ∷ []
 
+abbrev pub word10Cells : Front → ℕ → List ℕ
+word10Cells f jack =
+    cellOf (f .preamp1) ∷ cellOf (f .preamp2) ∷ cellOf (f .preamp3) ∷ cellOf (f .preamp4) ∷ jack ∷ cellOf (f .bias) ∷ cellOf (f .pttdisabled)
+    ∷ f .gain ∷ f .c2top ∷ f .c3 ∷ f .c4 ∷ []
+
 abbrev pub hostCells : Host → List ℕ
-hostCells h = word0Cells h (codesOf h) (h .outputs) (h .receivers) ++ tunedCells h ++ word9Cells (h .controls) (h .highpass) (h .lowpass)
+hostCells h =
+    word0Cells h (codesOf h) (h .outputs) (h .receivers)
+    ++ tunedCells h
+    ++ word9Cells (h .controls) (h .highpass) (h .lowpass)
+    ++ word10Cells (h .front) (codesOf h .jack)
 
 abbrev pub builderOf : List ℕ → Builder
 builderOf cs = record { host = hostOf cs; turn = number 8 cs hostCount }

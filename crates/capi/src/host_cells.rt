@@ -1,12 +1,14 @@
-// The host record as 51 cells, and a builder as those and its turn.
+// The host record as 62 cells, and a builder as those and its turn.
 use crate::cells::put;
 use host::Builder;
 use host::record::Antenna;
 use host::record::Attenuator;
 use host::record::Boards;
 use host::record::Controls;
+use host::record::Front;
 use host::record::HighPass;
 use host::record::Host;
+use host::record::Jack;
 use host::record::LowPass;
 use host::record::Microphone;
 use host::record::Relay;
@@ -17,10 +19,10 @@ ghost use mathlib.Core.Path.{_≡_};
 ghost use mathlib.Core.List.{_++_};
 ghost use Prim.Native.Nat.{suc, _≤_};
 ghost use lib.ListN.{length};
-ghost use Rattle.capi.specs.Host.{hostCount, source10Of, relayOf, controlsOf, highpassOf, lowpassOf, choicesOf, hostWith, hostOf, codesOf, word0Cells, tunedCells, word9Cells, hostCells, builderOf};
+ghost use Rattle.capi.specs.Host.{hostCount, source10Of, relayOf, controlsOf, highpassOf, lowpassOf, frontOf, choicesOf, hostWith, hostOf, codesOf, word0Cells, tunedCells, word9Cells, word10Cells, hostCells, builderOf};
 
 // The number of its cells, and so the place of the turn after them.
-pub(crate) const HOST: usize = 51;
+pub(crate) const HOST: usize = 62;
 
 pub(crate) const MOST: [u32; HOST + 1] = [
     1,
@@ -74,6 +76,17 @@ pub(crate) const MOST: [u32; HOST + 1] = [
     1,
     1,
     1,
+    1,
+    1,
+    1,
+    1,
+    1,
+    1,
+    1,
+    255,
+    255,
+    255,
+    255,
     255,
 ];
 
@@ -145,6 +158,25 @@ pub(crate) fn lowpass_of(cells: &[u32]) -> LowPass
     }
 }
 
+pub(crate) fn front_of(cells: &[u32], jack: Jack) -> Front
+    requires { ⌜ hostCount ≤ length (now cells) ⌝ }
+    ensures { λ r. ⌜ r ≡ frontOf (now (cells .entry)) jack ⌝ }
+{
+    Front {
+        preamp1: cells[51] == 1,
+        preamp2: cells[52] == 1,
+        preamp3: cells[53] == 1,
+        preamp4: cells[54] == 1,
+        jack,
+        bias: cells[56] == 1,
+        pttdisabled: cells[57] == 1,
+        gain: (cells[58] % 256) as u8,
+        c2top: (cells[59] % 256) as u8,
+        c3: (cells[60] % 256) as u8,
+        c4: (cells[61] % 256) as u8,
+    }
+}
+
 // The host record's named choices.
 pub(crate) struct Choices {
     pub(crate) speed: Speed,
@@ -155,6 +187,7 @@ pub(crate) struct Choices {
     pub(crate) attenuator: Attenuator,
     pub(crate) antenna: Antenna,
     pub(crate) relay: Relay,
+    pub(crate) jack: Jack,
 }
 
 pub(crate) fn choices_of(cells: &[u32]) -> Choices
@@ -170,6 +203,7 @@ pub(crate) fn choices_of(cells: &[u32]) -> Choices
         attenuator: Attenuator::of((cells[8] % 256) as u8),
         antenna: Antenna::of((cells[12] % 256) as u8),
         relay: relay_of(cells[14]),
+        jack: Jack::of((cells[55] % 256) as u8),
     }
 }
 
@@ -181,7 +215,9 @@ pub(crate) fn host_of(cells: &[u32]) -> Host
     let controls = controls_of(cells);
     let highpass = highpass_of(cells);
     let lowpass = lowpass_of(cells);
-    host_with(cells, chosen, controls, highpass, lowpass)
+    let jack = chosen.jack;
+    let front = front_of(cells, jack);
+    host_with(cells, chosen, controls, highpass, lowpass, front)
 }
 
 pub(crate) fn host_with(
@@ -190,9 +226,10 @@ pub(crate) fn host_with(
     controls: Controls,
     highpass: HighPass,
     lowpass: LowPass,
+    front: Front,
 ) -> Host
     requires { ⌜ hostCount ≤ length (now cells) ⌝ }
-    ensures { λ r. ⌜ r ≡ hostWith (now (cells .entry)) chosen controls highpass lowpass ⌝ }
+    ensures { λ r. ⌜ r ≡ hostWith (now (cells .entry)) chosen controls highpass lowpass front ⌝ }
 {
     let speed = chosen.speed;
     let source10 = chosen.source10;
@@ -236,6 +273,7 @@ pub(crate) fn host_with(
         controls,
         highpass,
         lowpass,
+        front,
     }
 }
 
@@ -249,6 +287,7 @@ pub(crate) struct Codes {
     pub(crate) attenuator: u8,
     pub(crate) antenna: u8,
     pub(crate) relay: u8,
+    pub(crate) jack: u8,
 }
 
 pub(crate) fn codes_of(host: Host) -> Codes
@@ -262,6 +301,8 @@ pub(crate) fn codes_of(host: Host) -> Codes
     let attenuator = host.attenuator;
     let antenna = host.antenna;
     let relay = host.relay;
+    let front = host.front;
+    let jack = front.jack;
     Codes {
         speed: speed.code(),
         source10: source10.code(),
@@ -271,6 +312,7 @@ pub(crate) fn codes_of(host: Host) -> Codes
         attenuator: attenuator.code(),
         antenna: antenna.code(),
         relay: relay.code(),
+        jack: jack.code(),
     }
 }
 
@@ -347,23 +389,49 @@ pub(crate) fn word9_cells(controls: Controls, highpass: HighPass, lowpass: LowPa
     ]
 }
 
+pub(crate) fn word10_cells(front: Front, jack: u8) -> [u32; 11]
+    ensures { λ r. ⌜ r ≡ word10Cells front jack ⌝ }
+{
+    [
+        front.preamp1 as u32,
+        front.preamp2 as u32,
+        front.preamp3 as u32,
+        front.preamp4 as u32,
+        jack as u32,
+        front.bias as u32,
+        front.pttdisabled as u32,
+        front.gain as u32,
+        front.c2top as u32,
+        front.c3 as u32,
+        front.c4 as u32,
+    ]
+}
+
 pub(crate) fn host_cells(host: Host) -> [u32; HOST]
     ensures { λ r. ⌜ r ≡ hostCells host ⌝ }
 {
-    let word0 = word0_cells(host, codes_of(host), host.outputs, host.receivers);
+    let codes = codes_of(host);
+    let word0 = word0_cells(host, codes, host.outputs, host.receivers);
     let tuned = tuned_cells(host);
     let word9 = word9_cells(host.controls, host.highpass, host.lowpass);
-    joined(&word0, &tuned, &word9)
+    let word10 = word10_cells(host.front, codes.jack);
+    joined(&word0, &tuned, &word9, &word10)
 }
 
-// Three parts of a record, one after another.
-pub(crate) fn joined(word0: &[u32; 19], tuned: &[u32; 9], word9: &[u32; 23]) -> [u32; HOST]
-    ensures { λ r. ⌜ r ≡ now (word0 .entry) ++ now (tuned .entry) ++ now (word9 .entry) ⌝ }
+// Four parts of a record, one after another.
+pub(crate) fn joined(
+    word0: &[u32; 19],
+    tuned: &[u32; 9],
+    word9: &[u32; 23],
+    word10: &[u32; 11],
+) -> [u32; HOST]
+    ensures { λ r. ⌜ r ≡ now (word0 .entry) ++ now (tuned .entry) ++ now (word9 .entry) ++ now (word10 .entry) ⌝ }
 {
     let mut cells = [0u32; HOST];
     put(&mut cells, 0, word0);
     put(&mut cells, 19, tuned);
     put(&mut cells, 28, word9);
+    put(&mut cells, 51, word10);
     cells
 }
 

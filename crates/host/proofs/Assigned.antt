@@ -1,4 +1,4 @@
--- The codes and the bit that are unassigned: what a frame that is not refused leaves of them, and that no built word sets one. Assumes nothing.
+-- The codes and the bits that are unassigned: what a frame that is not refused leaves of them, and that no built word sets one. Assumes nothing.
 use mathlib.Core.Path.{_≡_, refl}
 use mathlib.Core.Bool.{Bool, true, false, _&&_}
 use Prim.Native.Nat.{ℕ, _<_}
@@ -16,20 +16,22 @@ use Rattle.host.specs.declared.record.Source10.{Source10}
 use Rattle.host.specs.declared.record.Relay.{Relay}
 use Rattle.host.specs.declared.words.Control.{Control}
 use Rattle.host.proofs.BitTrip.{switched, eight-back}
-use Rattle.host.proofs.WordTrip.{controlFrom, c1-field, c4-field}
+use Rattle.host.proofs.WordTrip.{controlFrom, c1-field, c4-field, front-c1-field}
 
--- what a frame that is not refused leaves of the codes and the bit that are unassigned
+-- what a frame that is not refused leaves of the codes and the bits that are unassigned
 pub record Assigned (a : ℕ) (c : Control) : Type 0 where
   pub source : a ≡ 0 → bits (c .c1) 3 2 < 3
   pub relay : a ≡ 0 → bits (c .c4) 1 0 < 3
-  pub bit7 : a ≡ 9 → on (c .c4) 7 ≡ false
+  pub ninth : a ≡ 9 → on (c .c4) 7 ≡ false
+  pub tenth : a ≡ 10 → on (c .c1) 7 ≡ false
 
 pub assigned : (c : Control) → None (unassigned c) → Assigned (address c) c
 assigned c none =
     record {
       source = λ z. assigned-codes c z none .0;
       relay = λ z. assigned-codes c z none .1;
-      bit7 = λ z. rw z at (none .1 .1 .0);
+      ninth = λ z. rw z at (none .1 .1 .0);
+      tenth = λ z. rw z at (none .1 .1 .1 .0);
     }
 
 -- a test of another word, or one that does not hold
@@ -42,7 +44,10 @@ assigned-none c ok = (
   not-both (eqb (address c) 0) (eqb (bits (c .c1) 3 2) 3) (λ z. let low = ok .source (eqb-true _ _ z) in ne-eqb (bits (c .c1) 3 2) 3 (omega arith)),
   (
     not-both (eqb (address c) 0) (eqb (bits (c .c4) 1 0) 3) (λ z. let low = ok .relay (eqb-true _ _ z) in ne-eqb (bits (c .c4) 1 0) 3 (omega arith)),
-    (not-both (eqb (address c) 9) (on (c .c4) 7) (λ z. ok .bit7 (eqb-true _ _ z)), tt),
+    (
+      not-both (eqb (address c) 9) (on (c .c4) 7) (λ z. ok .ninth (eqb-true _ _ z)),
+      (not-both (eqb (address c) 10) (on (c .c1) 7) (λ z. ok .tenth (eqb-true _ _ z)), tt),
+    ),
   ),
 )
 
@@ -63,7 +68,8 @@ built-assigned turn c0 h range =
     record {
       source = λ z. rw (z, c1-field h 1) (source-low (h .source10));
       relay = λ z. rw (z, c4-field h range 0) (relay-low (h .relay));
-      bit7 = λ z.
+      ninth = λ z.
           let s = h .lowpass in
           rw z (switched false (eight-back (s .m30) (s .m60) (s .m80) (s .m160) (s .m6) (s .m12) (s .m17) false 7));
+      tenth = λ z. rw z (switched false (front-c1-field (h .front) 7));
     }

@@ -33,14 +33,20 @@ module _ (b : Builder) (count room : ℕ) where
         turn = ltb-false _ _ (none .0);
         long = eqb-true _ _ (not-false _ (none .1 .0));
         fits = ltb-false _ _ (none .1 .1 .0);
-        range = record { outputs = ltb-false _ _ (range .0); some = ltb-false _ _ (range .1 .0); few = ltb-false _ _ (range .1 .1 .0) };
+        range = record {
+          outputs = ltb-false _ _ (range .0);
+          some = ltb-false _ _ (range .1 .0);
+          few = ltb-false _ _ (range .1 .1 .0);
+          gain = ltb-false _ _ (range .1 .1 .1 .0);
+          top = ltb-false _ _ (range .1 .1 .1 .1 .0);
+        };
       }
 
   pub ready-accepted : Ready b count room → first (refusals b count room) ≡ Accepted
   ready-accepted r =
       let range = r .range in
       none-accepted (refusals b count room)
-      (le-ltb _ _ (r .turn), (ap not (eq-eqb _ _ (r .long)), (le-ltb _ _ (r .fits), (le-ltb _ _ (range .outputs), (le-ltb _ _ (range .some), (le-ltb _ _ (range .few), tt))))))
+      (le-ltb _ _ (r .turn), (ap not (eq-eqb _ _ (r .long)), (le-ltb _ _ (r .fits), (le-ltb _ _ (range .outputs), (le-ltb _ _ (range .some), (le-ltb _ _ (range .few), (le-ltb _ _ (range .gain), (le-ltb _ _ (range .top), tt))))))))
 
 pub same-outcome : {x y : Answer} {a b : Builder} {f g : List ℕ} → x ≡ y → a ≡ b → f ≡ g → _≡_ {A = Outcome} (record { answer = x; builder = a; frame = f }) (record { answer = y; builder = b; frame = g })
 same-outcome p q r = λ i. record { answer = p i; builder = q i; frame = r i }

@@ -6,22 +6,24 @@ use Prim.Native.Nat.{ℕ, zero, suc, _+_, _-_, _<_, _≤_}
 use native.Mathlib.Omega.{arith}
 use lib.ListN.{getD}
 use Rattle.wire.proofs.Bytes.{bytesOf-be}
-use Rattle.wire.proofs.Cases.{by-order}
+use borrow.Author.Tests.{eqb-true, eqb-false}
+use lib.Dec.{eqb}
+use Rattle.wire.proofs.Cases.{by-order, by-test}
 use Rattle.wire.proofs.Pack.{pack-fields}
-use Rattle.wire.specs.Fields.{bits, bit, on, pack, eightFlags}
+use Rattle.wire.specs.Fields.{bits, bit, on, flag, pack, eightFlags}
 use Rattle.wire.specs.Numbers.{bytesOf, Bytes}
 use Rattle.host.proofs.Carries.{own-entry}
-use Rattle.host.proofs.Codes.{speed-codes, source122-codes, boards-codes, microphone-codes, attenuator-codes, antenna-codes}
+use Rattle.host.proofs.Codes.{speed-codes, source122-codes, boards-codes, microphone-codes, attenuator-codes, antenna-codes, jack-codes}
 use Rattle.host.proofs.Saying.{said-frequency}
 use Rattle.host.specs.Choices.{source10Of, source10Code, relayOf, relayCode}
 use Rattle.host.specs.Record.{Seven}
-use Rattle.host.specs.Sent.{c1Of, c2Of, c3Of, c4Of, said}
-use Rattle.host.specs.Words.{heard, source10Or, relayOr, lastWord}
+use Rattle.host.specs.Sent.{c1Of, c2Of, c3Of, c4Of, frontC1, said}
+use Rattle.host.specs.Words.{heard, source10Or, relayOr, frontOf, lastWord}
 use Rattle.host.specs.declared.record.Host.{Host}
 use Rattle.host.specs.declared.record.Source10.{Source10}
 use Rattle.host.specs.declared.record.Relay.{Relay}
 use Rattle.host.specs.declared.words.Control.{Control}
-use Rattle.host.proofs.BitTrip.{bit-back, eight-again}
+use Rattle.host.proofs.BitTrip.{bit-back, ones, eight-again}
 use Rattle.host.proofs.Assigned.{Assigned}
 
 -- C1 to C4 are bytes
@@ -80,8 +82,17 @@ switches-again : (c : Control) (h : Host) → ByteControl c → Assigned 9 c →
 unfolding heard said
 switches-again c h byte ok =
     let last : eightFlags (on (c .c4) 0) (on (c .c4) 1) (on (c .c4) 2) (on (c .c4) 3) (on (c .c4) 4) (on (c .c4) 5) (on (c .c4) 6) false ≡ c .c4 =
-    ap (eightFlags (on (c .c4) 0) (on (c .c4) 1) (on (c .c4) 2) (on (c .c4) 3) (on (c .c4) 4) (on (c .c4) 5) (on (c .c4) 6)) (sym (ok .bit7 refl)) ∙ eight-again (c .c4) (byte .b4) in
+    ap (eightFlags (on (c .c4) 0) (on (c .c4) 1) (on (c .c4) 2) (on (c .c4) 3) (on (c .c4) 4) (on (c .c4) 5) (on (c .c4) 6)) (sym (ok .ninth refl)) ∙ eight-again (c .c4) (byte .b4) in
     λ i. c .c1 ∷ eight-again (c .c2) (byte .b2) i ∷ eight-again (c .c3) (byte .b3) i ∷ last i ∷ []
+
+front-again : (c : Control) (h : Host) → ByteControl c → Assigned 10 c → said 10 (heard 10 c h) ≡ fourBytes c
+unfolding heard said
+front-again c h byte ok =
+    let e1 : frontC1 (frontOf c) ≡ c .c1 =
+    ap (pack ones)
+    (λ i. bit-back (c .c1) 0 i ∷ bit-back (c .c1) 1 i ∷ bit-back (c .c1) 2 i ∷ bit-back (c .c1) 3 i ∷ jack-codes .again (bit (c .c1) 4) (omega arith) i ∷ bit-back (c .c1) 5 i ∷ bit-back (c .c1) 6 i ∷ (ap flag (sym (ok .tenth refl)) ∙ bit-back (c .c1) 7) i ∷ [])
+    ∙ pack-fields ones (c .c1) (byte .b1) in
+    λ i. e1 i ∷ pack-fields (5 ∷ 3 ∷ []) (c .c2) (byte .b2) i ∷ c .c3 ∷ c .c4 ∷ []
 
 -- words 1 to 8 are one number each
 frequency-again : (a i : ℕ) (c : Control) (h : Host) → a ≡ i + 2 → i < 7 → Seven h → ByteControl c → said a (heard a c h) ≡ fourBytes c
@@ -103,6 +114,12 @@ bytes-again (suc zero) c h listed seven byte ok = transmitter-again c h byte
 bytes-again (suc (suc i)) c h listed seven byte ok =
     by-order i 7
     (λ small. frequency-again (suc (suc i)) i c h (omega arith) small seven byte)
-    (λ last.
-    let ninth : suc (suc i) ≡ 9 = omega arith in
+    (λ past.
+    by-test (eqb i 7)
+    (λ e.
+    let ninth : suc (suc i) ≡ 9 = ap (λ k. suc (suc k)) (eqb-true i 7 e) in
     rw ninth (switches-again c h byte (rw ninth at ok)))
+    (λ e.
+    let other = eqb-false i 7 e in
+    let tenth : suc (suc i) ≡ 10 = omega arith in
+    rw tenth (front-again c h byte (rw tenth at ok))))

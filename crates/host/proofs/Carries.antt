@@ -52,6 +52,7 @@ module _ (a : ℕ) (c : Control) (h : Host) where
         first = λ z. rw (ne-eqb a 1 (λ e. other (z ∙ sym e)));
         receiver = λ i small z. other-entry i (λ e. other (z ∙ e));
         ninth = λ z. rw (ne-eqb a 9 (λ e. other (z ∙ sym e)));
+        tenth = λ z. rw (ne-eqb a 10 (λ e. other (z ∙ sym e)));
       }
 
 -- a code below 3 names a source, and a relay, whatever the record had
@@ -83,4 +84,5 @@ carried c g h long-g long-h none =
       first = λ z. rw z;
       receiver = λ i small z. own-entry (address c) c g i small z long-g ∙ sym (own-entry (address c) c h i small z long-h);
       ninth = λ z. rw z;
+      tenth = λ z. rw z;
     }

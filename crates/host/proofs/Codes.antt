@@ -1,8 +1,8 @@
--- A choice and its code, there and back: one law, and that each of the eight choices keeps it. Assumes nothing.
+-- A choice and its code, there and back: one law, and that each of the nine choices keeps it. Assumes nothing.
 use mathlib.Core.Path.{_≡_, refl, _∙_}
 use Prim.Native.Nat.{ℕ, zero, suc, _<_}
 use native.Mathlib.Omega.{arith}
-use Rattle.host.specs.Choices.{four, two, speedCode, speedOf, foundSource10Code, source10Of, source122Code, source122Of, boardsCode, boardsOf, microphoneCode, microphoneOf, attenuatorCode, attenuatorOf, antennaCode, antennaOf, foundRelayCode, relayOf}
+use Rattle.host.specs.Choices.{four, two, speedCode, speedOf, foundSource10Code, source10Of, source122Code, source122Of, boardsCode, boardsOf, microphoneCode, microphoneOf, attenuatorCode, attenuatorOf, antennaCode, antennaOf, foundRelayCode, relayOf, jackCode, jackOf}
 use Rattle.host.specs.declared.record.Speed.{Speed}
 use Rattle.host.specs.declared.record.Source10.{Source10}
 use Rattle.host.specs.declared.record.FoundSource10.{FoundSource10}
@@ -13,6 +13,7 @@ use Rattle.host.specs.declared.record.Attenuator.{Attenuator}
 use Rattle.host.specs.declared.record.Antenna.{Antenna}
 use Rattle.host.specs.declared.record.Relay.{Relay}
 use Rattle.host.specs.declared.record.FoundRelay.{FoundRelay}
+use Rattle.host.specs.declared.record.Jack.{Jack}
 
 -- `count` codes, each the code of the choice that it names, and each choice named by its code
 pub record ThereAndBack {A : Type 0} (count : ℕ) (code : A → ℕ) (choice : ℕ → A) : Type 0 where
@@ -118,6 +119,13 @@ relay-codes = four-choices foundRelayCode (FoundRelay.Named Relay.Tx1) (FoundRel
     named (FoundRelay.Named Relay.Tx3) = (omega arith, refl)
     named FoundRelay.Unassigned = (omega arith, refl)
 
--- document 01's eight named choices
-pub there-and-back : ThereAndBack 4 speedCode speedOf × ThereAndBack 4 foundSource10Code source10Of × ThereAndBack 2 source122Code source122Of × ThereAndBack 4 boardsCode boardsOf × ThereAndBack 2 microphoneCode microphoneOf × ThereAndBack 4 attenuatorCode attenuatorOf × ThereAndBack 4 antennaCode antennaOf × ThereAndBack 4 foundRelayCode relayOf
-there-and-back = (speed-codes, source10-codes, source122-codes, boards-codes, microphone-codes, attenuator-codes, antenna-codes, relay-codes)
+pub jack-codes : ThereAndBack 2 jackCode jackOf
+jack-codes = two-choices jackCode Jack.PttToRing Jack.PttToTip refl refl named
+  where
+    named : (x : Jack) → (jackCode x < 2) × (jackOf (jackCode x) ≡ x)
+    named Jack.PttToRing = (omega arith, refl)
+    named Jack.PttToTip = (omega arith, refl)
+
+-- document 01's eight named choices, and T-07's
+pub there-and-back : ThereAndBack 4 speedCode speedOf × ThereAndBack 4 foundSource10Code source10Of × ThereAndBack 2 source122Code source122Of × ThereAndBack 4 boardsCode boardsOf × ThereAndBack 2 microphoneCode microphoneOf × ThereAndBack 4 attenuatorCode attenuatorOf × ThereAndBack 4 antennaCode antennaOf × ThereAndBack 4 foundRelayCode relayOf × ThereAndBack 2 jackCode jackOf
+there-and-back = (speed-codes, source10-codes, source122-codes, boards-codes, microphone-codes, attenuator-codes, antenna-codes, relay-codes, jack-codes)

@@ -1,4 +1,4 @@
--- Ten all-zero words, read into any record, leave the fresh one. Assumes nothing.
+-- Eleven all-zero words, read into any record, leave the fresh one. Assumes nothing.
 use mathlib.Core.Path.{_≡_, refl, sym, ap, subst⁻¹, _∙_}
 use mathlib.Core.List.{List}
 use Prim.Native.Nat.{ℕ, suc, _*_, _<_}
@@ -35,6 +35,7 @@ zero-fields w g long =
       first = λ z. rw z;
       receiver = λ i small z. own-entry w (zeroWord w) g i small z long ∙ sym (getD-replicate 7 i 0 0 small);
       ninth = λ z. rw z;
+      tenth = λ z. rw z;
     }
 
 says-fresh : (w : ℕ) (x : Call) → Zero w x → Says fresh w x

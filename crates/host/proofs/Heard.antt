@@ -10,15 +10,21 @@ use Rattle.host.specs.Words.{lastWord, tunes, heard}
 use Rattle.host.specs.declared.record.Host.{Host}
 use Rattle.host.specs.declared.words.Control.{Control}
 
--- a word that is none of 0, 1 and 9
+-- a word that is none of 0, 1, 9 and 10
 pub record Tests (a : ℕ) : Type 0 where
   pub settings : eqb a 0 ≡ false
   pub transmitter : eqb a 1 ≡ false
   pub switches : eqb a 9 ≡ false
+  pub front : eqb a 10 ≡ false
 
-pub tests : (a : ℕ) → 2 ≤ a → (a ≡ 9 → ⊥) → Tests a
-tests a above other =
-    record { settings = ne-eqb a 0 (omega arith); transmitter = ne-eqb a 1 (omega arith); switches = ne-eqb a 9 other }
+pub tests : (a : ℕ) → 2 ≤ a → (a ≡ 9 → ⊥) → (a ≡ 10 → ⊥) → Tests a
+tests a above not-switches not-front =
+    record {
+      settings = ne-eqb a 0 (omega arith);
+      transmitter = ne-eqb a 1 (omega arith);
+      switches = ne-eqb a 9 not-switches;
+      front = ne-eqb a 10 not-front;
+    }
 
 pub receiver-tunes : (a : ℕ) → 2 ≤ a → a ≤ 8 → tunes a ≡ true
 receiver-tunes a above below = rw (le-leb 2 a above, le-leb a 8 below)
@@ -35,5 +41,5 @@ past-tunes a above = let from : 2 ≤ a = omega arith in rw (le-leb 2 a from, lt
 pub unlisted-same : (a : ℕ) (c : Control) (h : Host) → lastWord < a → heard a c h ≡ heard (suc lastWord) c h
 unfolding heard
 unlisted-same a c h above =
-    let other = tests a (omega arith) (omega arith) in
-    rw (other .settings, other .transmitter, other .switches, past-tunes a (omega arith))
+    let other = tests a (omega arith) (omega arith) (omega arith) in
+    rw (other .settings, other .transmitter, other .switches, other .front, past-tunes a (omega arith))

@@ -9,7 +9,7 @@ use lib.Dec.{eqb}
 use lib.IntN.{ℤ}
 use lib.ListN.{length, getD, take, drop, length-drop, take-append-drop}
 use lib.Seq.{getD-drop}
-use Rattle.wire.proofs.Cases.{by-test, both-true}
+use Rattle.wire.proofs.Cases.{either, both-true}
 use Rattle.wire.proofs.Lists.{tab-getD, length-over}
 use Rattle.wire.specs.Numbers.{Bytes, Samples16}
 use Rattle.wire.specs.Sync.{syncAt}
@@ -30,6 +30,7 @@ use Rattle.host.specs.Samples.{payloadOf, payloadFrom, number, numbers}
 use Rattle.host.specs.Sent.{InRange, c0Of, said}
 use Rattle.host.specs.Words.{lastWord, listed, controlOf, address, heard, after}
 use Rattle.host.specs.declared.Builder.{Builder}
+use Rattle.host.specs.declared.record.Front.{Front}
 use Rattle.host.specs.declared.record.Host.{Host}
 use Rattle.host.specs.declared.words.Control.{Control}
 use Rattle.host.specs.Read as reading
@@ -89,9 +90,13 @@ module _ (f : List ℕ) where
 still-in-range : (a : ℕ) (c : Control) (h : Host) → InRange h → InRange (heard a c h)
 unfolding heard
 still-in-range a c h range =
-    by-test (eqb a 0)
-    (λ e. record { outputs = rw e (omega arith); some = rw e (omega arith); few = rw e (omega arith) })
-    (λ e. record { outputs = rw e (range .outputs); some = rw e (range .some); few = rw e (range .few) })
+    record {
+      outputs = either (eqb a 0) (λ n. n ≤ 127) (omega arith) (range .outputs);
+      some = either (eqb a 0) (λ n. 1 ≤ n) (omega arith) (range .some);
+      few = either (eqb a 0) (λ n. n ≤ 8) (omega arith) (range .few);
+      gain = either (eqb a 10) (λ (s : Front). s .gain ≤ 31) (omega arith) (range .gain);
+      top = either (eqb a 10) (λ (s : Front). s .c2top ≤ 7) (omega arith) (range .top);
+    }
 
 module _ (f : List ℕ) (out : List ℤ) (h : Host) (bytes : Bytes f) (good : Good f (length out)) (low : address (controlOf f) ≤ lastWord) (range : InRange h) (seven : Seven h) where
   frame-again : frameOf (again (reading.accepted f out h)) (numbers (payloadOf f) out) ≡ f

@@ -14,6 +14,7 @@ same-same p q =
       first = λ z. p .first z ∙ q .first z;
       receiver = λ i small z. p .receiver i small z ∙ q .receiver i small z;
       ninth = λ z. p .ninth z ∙ q .ninth z;
+      tenth = λ z. p .tenth z ∙ q .tenth z;
     }
 
 module _ (g h : Host) where
@@ -28,6 +29,7 @@ module _ (g h : Host) where
       let t = same 1 (omega arith) .first refl in
       let r = frequencies-same long-g long-h same in
       let n = same 9 (omega arith) .ninth refl in
+      let f = same 10 (omega arith) .tenth refl in
       λ i.
       record {
         mox = keyed i;
@@ -55,4 +57,5 @@ module _ (g h : Host) where
         controls = n i .1;
         highpass = n i .2;
         lowpass = n i .3;
+        front = f i;
       }

@@ -1,4 +1,4 @@
--- A record left unchanged is wholly sent within ten accepted builds, from any turn, into whatever record the other side had. Assumes nothing.
+-- A record left unchanged is wholly sent within eleven accepted builds, from any turn, into whatever record the other side had. Assumes nothing.
 use mathlib.Core.Path.{_≡_, refl, sym, ap, subst, _∙_}
 use mathlib.Core.Bool.{true}
 use mathlib.Core.List.{List, [], _∷_}
@@ -61,12 +61,12 @@ all-say (x ∷ xs) b all held = (
 
 -- the first of the builds was accepted, so its turn is one of the words'
 first-due : (xs : List Trip) (b : Builder) → length xs ≡ suc lastWord → AllBuilt xs b → b .turn ≤ lastWord
-first-due [] b ten all = absurd (omega arith)
-first-due (x ∷ xs) b ten all = ready x b (all .0) .turn
+first-due [] b eleven all = absurd (omega arith)
+first-due (x ∷ xs) b eleven all = ready x b (all .0) .turn
 
 pub wholly-sent : (xs : List Trip) (b : Builder) (g : Host) → length xs ≡ suc lastWord → AllBuilt xs b → Held (b .host) → Seven g → exchange xs b g ≡ b .host
-wholly-sent xs b g ten all held seven =
+wholly-sent xs b g eleven all held seven =
     exchange-reads xs b g all
     ∙ wholly-told (b .host) (turns (length xs) (b .turn)) (calls xs b) g
-    (λ w listed. rw ten (every-turn (b .turn) (first-due xs b ten all) w listed))
+    (λ w listed. rw eleven (every-turn (b .turn) (first-due xs b eleven all) w listed))
     (all-say xs b all held) (held .seven) seven

@@ -2,7 +2,7 @@
 use mathlib.Core.Path.{_≡_, ap, _∙_}
 use mathlib.Core.Bool.{false}
 use mathlib.Core.List.{List, [], _∷_}
-use Prim.Native.Nat.{ℕ, _+_, _-_, _^_, _<_}
+use Prim.Native.Nat.{ℕ, _+_, _-_, _^_, _<_, _≤_}
 use native.Mathlib.Nat.{mod-eq-of-lt}
 use native.Mathlib.Omega.{arith}
 use lib.ListN.{getD}
@@ -10,25 +10,25 @@ use Rattle.wire.proofs.Bytes.{be-bytesOf}
 use Rattle.wire.specs.Fields.{flag, fields}
 use Rattle.wire.specs.Numbers.{bytesOf}
 use Rattle.host.proofs.Carries.{own-entry}
-use Rattle.host.proofs.Codes.{speed-codes, source10-codes, source122-codes, boards-codes, microphone-codes, attenuator-codes, antenna-codes, relay-codes}
+use Rattle.host.proofs.Codes.{speed-codes, source10-codes, source122-codes, boards-codes, microphone-codes, attenuator-codes, antenna-codes, relay-codes, jack-codes}
 use Rattle.host.proofs.Saying.{said-frequency}
-use Rattle.host.specs.Choices.{speedOf, speedCode, source10Of, source10Code, source122Of, source122Code, boardsOf, boardsCode, microphoneOf, microphoneCode, attenuatorOf, attenuatorCode, antennaOf, antennaCode, relayOf, relayCode}
+use Rattle.host.specs.Choices.{speedOf, speedCode, source10Of, source10Code, source122Of, source122Code, boardsOf, boardsCode, microphoneOf, microphoneCode, attenuatorOf, attenuatorCode, antennaOf, antennaCode, relayOf, relayCode, jackOf, jackCode}
 use Rattle.host.specs.Record.{Same, Seven, settings}
-use Rattle.host.specs.Sent.{InRange, c1Of, c2Of, c3Of, c4Of, controlsByte, highpassByte, lowpassByte, said}
-use Rattle.host.specs.Words.{hertz, heard, source10Or, relayOr, controlsOf, highpassOf, lowpassOf}
+use Rattle.host.specs.Sent.{InRange, c1Of, c2Of, c3Of, c4Of, controlsByte, highpassByte, lowpassByte, frontC1, frontC2, frontBytes, said}
+use Rattle.host.specs.Words.{hertz, heard, source10Or, relayOr, controlsOf, highpassOf, lowpassOf, frontOf}
 use Rattle.host.specs.declared.record.Host.{Host}
 use Rattle.host.specs.declared.record.Controls.{Controls}
 use Rattle.host.specs.declared.record.HighPass.{HighPass}
 use Rattle.host.specs.declared.record.LowPass.{LowPass}
+use Rattle.host.specs.declared.record.Front.{Front}
 use Rattle.host.specs.declared.record.FoundRelay.{FoundRelay}
 use Rattle.host.specs.declared.record.FoundSource10.{FoundSource10}
 use Rattle.host.specs.declared.words.Control.{Control}
-use Rattle.host.proofs.BitTrip.{flag-fits, switched, field-back, eight-back}
+use Rattle.host.proofs.BitTrip.{flag-fits, switched, field-back, ones, eight-back}
 
--- the numbers of a host record, as the language holds them
+-- the frequencies of a host record, as the language holds them
 pub record Held (h : Host) : Type 0 where
   pub seven : Seven h
-  pub drive : h .drive < 256
   pub transmitter : h .transmitter < 2 ^ 32
   pub frequencies : (i : ℕ) → getD (h .frequencies) i 0 < 2 ^ 32
 
@@ -131,6 +131,36 @@ settings-back c0 g h range =
       switched (h .common) (b4 4) i,
     )
 
+-- word 10's C1 and C2, field by field
+module _ (s : Front) where
+  pub front-c1-field : (k : ℕ) → getD (fields ones (frontC1 s)) k 0 ≡ getD (flag (s .preamp1) ∷ flag (s .preamp2) ∷ flag (s .preamp3) ∷ flag (s .preamp4) ∷ jackCode (s .jack) ∷ flag (s .bias) ∷ flag (s .pttdisabled) ∷ 0 ∷ []) k 0
+  front-c1-field =
+      field-back ones (flag (s .preamp1) ∷ flag (s .preamp2) ∷ flag (s .preamp3) ∷ flag (s .preamp4) ∷ jackCode (s .jack) ∷ flag (s .bias) ∷ flag (s .pttdisabled) ∷ 0 ∷ [])
+      (flag-fits (s .preamp1), (flag-fits (s .preamp2), (flag-fits (s .preamp3), (flag-fits (s .preamp4), (jack-codes .fits (s .jack), (flag-fits (s .bias), (flag-fits (s .pttdisabled), (omega arith, tt))))))))
+
+  front-c2-field : s .gain ≤ 31 → s .c2top ≤ 7 → (k : ℕ) → getD (fields (5 ∷ 3 ∷ []) (frontC2 s)) k 0 ≡ getD (s .gain ∷ s .c2top ∷ []) k 0
+  front-c2-field low few = field-back (5 ∷ 3 ∷ []) (s .gain ∷ s .c2top ∷ []) (omega arith, (omega arith, tt))
+
+front-back : (c0 : ℕ) (h : Host) → InRange h → frontOf (controlFrom c0 (frontBytes (h .front))) ≡ h .front
+front-back c0 h range =
+    let s = h .front in
+    let b1 = front-c1-field s in
+    let b2 = front-c2-field s (range .gain) (range .top) in
+    λ i.
+    record {
+      preamp1 = switched (s .preamp1) (b1 0) i;
+      preamp2 = switched (s .preamp2) (b1 1) i;
+      preamp3 = switched (s .preamp3) (b1 2) i;
+      preamp4 = switched (s .preamp4) (b1 3) i;
+      jack = (ap jackOf (b1 4) ∙ jack-codes .back (s .jack)) i;
+      bias = switched (s .bias) (b1 5) i;
+      pttdisabled = switched (s .pttdisabled) (b1 6) i;
+      gain = b2 0 i;
+      c2top = b2 1 i;
+      c3 = s .c3;
+      c4 = s .c4;
+    }
+
 -- four bytes of a number that fits them
 hertz-back : (c0 n : ℕ) → n < 2 ^ 32 → hertz (controlFrom c0 (bytesOf 4 n)) ≡ n
 hertz-back c0 n fits = be-bytesOf 4 n ∙ mod-eq-of-lt fits
@@ -148,4 +178,5 @@ word-back turn c0 g h seven range held =
           ∙ ap (λ l. hertz (controlFrom c0 l)) (said-frequency turn h (omega arith) (omega arith) ∙ ap (λ k. bytesOf 4 (getD (h .frequencies) k 0)) at)
           ∙ hertz-back c0 (getD (h .frequencies) i 0) (held .frequencies i);
       ninth = λ z. rw z (λ i. (h .drive, controls-back (h .controls) i, highpass-back (h .highpass) i, lowpass-back (h .lowpass) i));
+      tenth = λ z. rw z (front-back c0 h range);
     }

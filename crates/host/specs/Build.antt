@@ -20,7 +20,7 @@ use Rattle.host.specs.declared.record.Host.{Host}
 abbrev pub freshBuilder : Builder
 freshBuilder = record { host = fresh; turn = 0 }
 
--- "moves the turn on by one, 9 going to 0"
+-- T-07: "the turn runs 0 to 10", and document 01: "moves the turn on by one", the last going to 0
 abbrev pub nextTurn : ℕ → ℕ
 nextTurn turn = cond (eqb turn lastWord) 0 (turn + 1)
 
@@ -30,6 +30,8 @@ ranges h =
     ltb 127 (h .outputs) gives Range
     ∷ ltb (h .receivers) 1 gives Range
     ∷ ltb 8 (h .receivers) gives Range
+    ∷ ltb 31 (h .front .gain) gives Range
+    ∷ ltb 7 (h .front .c2top) gives Range
     ∷ []
 
 -- in the order of the table; `room` is the length of the frame, `count` that of the sample slice

@@ -10,6 +10,7 @@ use Rattle.host.specs.declared.record.Attenuator.{Attenuator}
 use Rattle.host.specs.declared.record.Antenna.{Antenna}
 use Rattle.host.specs.declared.record.Relay.{Relay}
 use Rattle.host.specs.declared.record.FoundRelay.{FoundRelay}
+use Rattle.host.specs.declared.record.Jack.{Jack}
 
 -- the choice at a code, of four in the order of their codes, and of two
 module _ {A : Type 0} where
@@ -102,3 +103,11 @@ relayOf = four (FoundRelay.Named Relay.Tx1) (FoundRelay.Named Relay.Tx2) (FoundR
 abbrev pub foundRelayCode : FoundRelay → ℕ
 foundRelayCode (FoundRelay.Named relay) = relayCode relay
 foundRelayCode FoundRelay.Unassigned = 3
+
+-- T-07: "0 is micPTT to ring and microphone to tip, 1 the reverse"
+abbrev pub jackCode : Jack → ℕ
+jackCode Jack.PttToRing = 0
+jackCode Jack.PttToTip = 1
+
+abbrev pub jackOf : ℕ → Jack
+jackOf = two Jack.PttToRing Jack.PttToTip

@@ -1,4 +1,4 @@
--- Document 01, "Words from the host": which word carries each field of the host record, and a fresh one. Assumes nothing.
+-- Document 01, "Words from the host", and T-07: which word carries each field of the host record, and a fresh one. Assumes nothing.
 use Prim.Native.Nat.{ℕ, _+_, _<_}
 use mathlib.Core.Bool.{Bool, false}
 use mathlib.Core.Path.{_≡_}
@@ -7,6 +7,8 @@ use Rattle.host.specs.declared.record.Host.{Host}
 use Rattle.host.specs.declared.record.Controls.{Controls}
 use Rattle.host.specs.declared.record.HighPass.{HighPass}
 use Rattle.host.specs.declared.record.LowPass.{LowPass}
+use Rattle.host.specs.declared.record.Front.{Front}
+use Rattle.host.specs.declared.record.Jack.{Jack}
 use Rattle.host.specs.declared.record.Speed.{Speed}
 use Rattle.host.specs.declared.record.Source10.{Source10}
 use Rattle.host.specs.declared.record.Source122.{Source122}
@@ -31,6 +33,7 @@ pub record Same (w : ℕ) (g h : Host) : Type 0 where
   pub first : w ≡ 1 → g .transmitter ≡ h .transmitter
   pub receiver : (i : ℕ) → i < 7 → w ≡ i + 2 → getD (g .frequencies) i 0 ≡ getD (h .frequencies) i 0
   pub ninth : w ≡ 9 → switches g ≡ switches h
+  pub tenth : w ≡ 10 → g .front ≡ h .front
 
 -- the array of seven frequencies, as the language holds it
 abbrev pub Seven : Host → Type 0
@@ -65,4 +68,5 @@ fresh =
       controls = record { boost = false; linein = false; filter = false; tuner = false; tune = false; board = false; manual = false; vna = false };
       highpass = record { mhz13 = false; mhz20 = false; mhz9 = false; mhz6 = false; mhz1 = false; bypass = false; amplifier = false; trdisabled = false };
       lowpass = record { m30 = false; m60 = false; m80 = false; m160 = false; m6 = false; m12 = false; m17 = false };
+      front = record { preamp1 = false; preamp2 = false; preamp3 = false; preamp4 = false; jack = Jack.PttToRing; bias = false; pttdisabled = false; gain = 0; c2top = 0; c3 = 0; c4 = 0 };
     }

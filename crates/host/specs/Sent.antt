@@ -1,4 +1,4 @@
--- Document 01, "Words from the host": the bytes of the word that is due, each byte a layout of its fields, the lowest first. Assumes nothing.
+-- Document 01, "Words from the host", and T-07: the bytes of the word that is due, each byte a layout of its fields, the lowest first. Assumes nothing.
 use Prim.Native.Nat.{ℕ, _-_, _≤_}
 use mathlib.Core.Bool.{Bool, false, cond}
 use mathlib.Core.List.{List, [], _∷_}
@@ -7,12 +7,13 @@ use lib.ListN.{getD}
 use Rattle.wire.specs.Fields.{flag, pack, eightFlags}
 use Rattle.wire.specs.Numbers.{bytesOf}
 use Rattle.wire.specs.Sync.{headerOf}
-use Rattle.host.specs.Choices.{speedCode, source10Code, source122Code, boardsCode, microphoneCode, attenuatorCode, antennaCode, relayCode}
+use Rattle.host.specs.Choices.{speedCode, source10Code, source122Code, boardsCode, microphoneCode, attenuatorCode, antennaCode, relayCode, jackCode}
 use Rattle.host.specs.Words.{tunes}
 use Rattle.host.specs.declared.record.Host.{Host}
 use Rattle.host.specs.declared.record.Controls.{Controls}
 use Rattle.host.specs.declared.record.HighPass.{HighPass}
 use Rattle.host.specs.declared.record.LowPass.{LowPass}
+use Rattle.host.specs.declared.record.Front.{Front}
 
 -- "C0 bits 7-1 are the address, bit 0 is MOX"
 abbrev pub c0Of : ℕ → Bool → ℕ
@@ -56,19 +57,35 @@ lowpassByte s = eightFlags (s .m30) (s .m60) (s .m80) (s .m160) (s .m6) (s .m12)
 abbrev pub switchesBytes : Host → List ℕ
 switchesBytes h = h .drive ∷ controlsByte (h .controls) ∷ highpassByte (h .highpass) ∷ lowpassByte (h .lowpass) ∷ []
 
+-- word 10: the preamps, tip and ring, mic bias, PTT disabled, "bit 7 is unassigned"
+abbrev pub frontC1 : Front → ℕ
+frontC1 s =
+    pack (1 ∷ 1 ∷ 1 ∷ 1 ∷ 1 ∷ 1 ∷ 1 ∷ 1 ∷ [])
+    (flag (s .preamp1) ∷ flag (s .preamp2) ∷ flag (s .preamp3) ∷ flag (s .preamp4) ∷ jackCode (s .jack) ∷ flag (s .bias) ∷ flag (s .pttdisabled) ∷ 0 ∷ [])
+
+-- line-in gain, and the top three bits
+abbrev pub frontC2 : Front → ℕ
+frontC2 s = pack (5 ∷ 3 ∷ []) (s .gain ∷ s .c2top ∷ [])
+
+abbrev pub frontBytes : Front → List ℕ
+frontBytes s = frontC1 s ∷ frontC2 s ∷ s .c3 ∷ s .c4 ∷ []
+
 -- C1 to C4 of the word that is due
 unfoldable pub said : ℕ → Host → List ℕ
 said turn h =
     cond (eqb turn 0) (settingsBytes h)
     (cond (eqb turn 1) (bytesOf 4 (h .transmitter))
-    (cond (tunes turn) (bytesOf 4 (getD (h .frequencies) (turn - 2) 0)) (switchesBytes h)))
+    (cond (tunes turn) (bytesOf 4 (getD (h .frequencies) (turn - 2) 0))
+    (cond (eqb turn 9) (switchesBytes h) (frontBytes (h .front)))))
 
 -- sync, and C0 to C4
 abbrev pub headOf : ℕ → Host → List ℕ
 headOf turn h = headerOf (c0Of turn (h .mox)) (said turn h)
 
--- "RANGE: ... the collector outputs above 127; the host record's receivers not 1 to 8"
+-- "RANGE: ... the collector outputs above 127; the host record's receivers not 1 to 8"; T-07: "a gain above 31 or top bits above 7"
 pub record InRange (h : Host) : Type 0 where
   pub outputs : h .outputs ≤ 127
   pub some : 1 ≤ h .receivers
   pub few : h .receivers ≤ 8
+  pub gain : h .front .gain ≤ 31
+  pub top : h .front .c2top ≤ 7

@@ -1,4 +1,4 @@
--- Document 01, "Words from the host": the address, MOX, and the fields of each word by their bits. Assumes nothing.
+-- Document 01, "Words from the host", and T-07: the address, MOX, and the fields of each word by their bits. Assumes nothing.
 use Prim.Native.Nat.{ℕ, suc, _+_, _-_}
 use mathlib.Core.Bool.{Bool, cond, _&&_}
 use mathlib.Core.List.{List, [], _∷_}
@@ -9,11 +9,12 @@ use Rattle.wire.specs.Fields.{bits, bit, on}
 use Rattle.wire.specs.Lists.{tab}
 use Rattle.wire.specs.Numbers.{be}
 use Rattle.wire.specs.declared.Answer.the-variants.{Reserved}
-use Rattle.host.specs.Choices.{speedOf, source10Of, source122Of, boardsOf, microphoneOf, attenuatorOf, antennaOf, relayOf}
+use Rattle.host.specs.Choices.{speedOf, source10Of, source122Of, boardsOf, microphoneOf, attenuatorOf, antennaOf, relayOf, jackOf}
 use Rattle.host.specs.declared.record.Host.{Host}
 use Rattle.host.specs.declared.record.Controls.{Controls}
 use Rattle.host.specs.declared.record.HighPass.{HighPass}
 use Rattle.host.specs.declared.record.LowPass.{LowPass}
+use Rattle.host.specs.declared.record.Front.{Front}
 use Rattle.host.specs.declared.record.Source10.{Source10}
 use Rattle.host.specs.declared.record.FoundSource10.{FoundSource10}
 use Rattle.host.specs.declared.record.Relay.{Relay}
@@ -28,9 +29,9 @@ controlOf f = record { c0 = getD f 3 0; c1 = getD f 4 0; c2 = getD f 5 0; c3 = g
 abbrev pub address : Control → ℕ
 address c = bits (c .c0) 7 1
 
--- "Addresses 10 to 127 are accepted, and set MOX only": the listed words are those up to this one
+-- T-07: addresses 11 to 127 are accepted, and set MOX only; the listed words are those up to this one
 abbrev pub lastWord : ℕ
-lastWord = 9
+lastWord = 10
 
 abbrev pub listed : ℕ → Bool
 listed a = leb a lastWord
@@ -46,12 +47,13 @@ tunes a = leb 2 a && leb a 8
 abbrev pub hertz : Control → ℕ
 hertz c = be (c .c1 ∷ c .c2 ∷ c .c3 ∷ c .c4 ∷ [])
 
--- "an unassigned host code or bit is set": word 0's 10 MHz source, its relay, and word 9's C4 bit 7
+-- "an unassigned host code or bit is set": word 0's 10 MHz source, its relay, word 9's C4 bit 7, and word 10's C1 bit 7
 abbrev pub unassigned : Control → List Test
 unassigned c =
     (eqb (address c) 0 && eqb (bits (c .c1) 3 2) 3) gives Reserved
     ∷ (eqb (address c) 0 && eqb (bits (c .c4) 1 0) 3) gives Reserved
     ∷ (eqb (address c) 9 && on (c .c4) 7) gives Reserved
+    ∷ (eqb (address c) 10 && on (c .c1) 7) gives Reserved
     ∷ []
 
 -- what a code names, and the given choice where it names none
@@ -74,6 +76,24 @@ highpassOf c3 =
 
 abbrev pub lowpassOf : ℕ → LowPass
 lowpassOf c4 = record { m30 = on c4 0; m60 = on c4 1; m80 = on c4 2; m160 = on c4 3; m6 = on c4 4; m12 = on c4 5; m17 = on c4 6 }
+
+-- T-07, word 10: "C1 bits 0 to 3 are the four receiver preamps, bit 4 the Orion tip and ring choice, 5 mic bias, 6 microphone PTT
+-- disabled", "C2's low five bits are the line-in gain"; C2's top three bits, C3 and C4 are plain numbers
+abbrev pub frontOf : Control → Front
+frontOf c =
+    record {
+      preamp1 = on (c .c1) 0;
+      preamp2 = on (c .c1) 1;
+      preamp3 = on (c .c1) 2;
+      preamp4 = on (c .c1) 3;
+      jack = jackOf (bit (c .c1) 4);
+      bias = on (c .c1) 5;
+      pttdisabled = on (c .c1) 6;
+      gain = bits (c .c2) 4 0;
+      c2top = bits (c .c2) 7 5;
+      c3 = c .c3;
+      c4 = c .c4;
+    }
 
 -- The record after word a: each field with the word that carries it, and its bits there. Every other field is as it was.
 unfoldable pub heard : ℕ → Control → Host → Host
@@ -104,6 +124,7 @@ heard a c h =
       controls = cond (eqb a 9) (controlsOf (c .c2)) (h .controls);
       highpass = cond (eqb a 9) (highpassOf (c .c3)) (h .highpass);
       lowpass = cond (eqb a 9) (lowpassOf (c .c4)) (h .lowpass);
+      front = cond (eqb a 10) (frontOf c) (h .front);
     }
 
 -- the record after an accepted frame

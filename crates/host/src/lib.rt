@@ -1,7 +1,7 @@
 // What a host program tells its radio: the host record, and host frames read and built.
 //
 // `read` takes a frame apart into the caller's samples and the next host record. `Builder::build` writes
-// the frame whose word is due, so that a record left unchanged is wholly sent within ten builds. Both
+// the frame whose word is due, so that a record left unchanged is wholly sent within eleven builds. Both
 // take what they are given: what cannot be read or built is refused by its number, and a refusal
 // changes nothing.
 pub mod record;
@@ -72,9 +72,9 @@ pub(crate) fn refusal(frame: &[u8], room: usize) -> Answer
 }
 
 // The last of the listed words, after which the turn is 0 again.
-const LAST_WORD: u8 = 9;
+const LAST_WORD: u8 = 10;
 
-// A host record and the word that is due, 0 to 9.
+// A host record and the word that is due, 0 to 10.
 pub struct Builder {
     pub host: Host,
     pub turn: u8,
@@ -141,6 +141,9 @@ pub(crate) fn out_of_range(host: Host) -> Answer
 {
     let outputs = host.outputs;
     let receivers = host.receivers;
+    let front = host.front;
+    let gain = front.gain;
+    let top = front.c2top;
     if 127 < outputs {
         return Answer::Range;
     }
@@ -148,6 +151,12 @@ pub(crate) fn out_of_range(host: Host) -> Answer
         return Answer::Range;
     }
     if 8 < receivers {
+        return Answer::Range;
+    }
+    if 31 < gain {
+        return Answer::Range;
+    }
+    if 7 < top {
         return Answer::Range;
     }
     Answer::Accepted

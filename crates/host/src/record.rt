@@ -1,7 +1,7 @@
-// The host record: every field of words 0 to 9, with the named choices and their codes on the wire.
+// The host record: every field of words 0 to 10, with the named choices and their codes on the wire.
 ghost use mathlib.Core.Path.{_≡_};
 ghost use Prim.Native.Nat.{_<_};
-ghost use Rattle.host.specs.Choices.{speedCode, speedOf, source10Code, source10Of, source122Code, source122Of, boardsCode, boardsOf, microphoneCode, microphoneOf, attenuatorCode, attenuatorOf, antennaCode, antennaOf, relayCode, relayOf};
+ghost use Rattle.host.specs.Choices.{speedCode, speedOf, source10Code, source10Of, source122Code, source122Of, boardsCode, boardsOf, microphoneCode, microphoneOf, attenuatorCode, attenuatorOf, antennaCode, antennaOf, relayCode, relayOf, jackCode, jackOf};
 ghost use Rattle.host.specs.Record.{fresh};
 
 pub enum Speed {
@@ -68,6 +68,12 @@ pub enum FoundRelay {
     Unassigned,
 }
 
+// Orion's microphone jack: where its PTT goes, and the microphone to the other contact.
+pub enum Jack {
+    PttToRing,
+    PttToTip,
+}
+
 // Word 9's C2.
 pub struct Controls {
     // of the microphone
@@ -108,6 +114,25 @@ pub struct LowPass {
     pub m17: bool,
 }
 
+// Word 10: what stands before the receivers and the microphone.
+pub struct Front {
+    // of receivers 1 to 4; word 0's preamp is another
+    pub preamp1: bool,
+    pub preamp2: bool,
+    pub preamp3: bool,
+    pub preamp4: bool,
+    pub jack: Jack,
+    // of the microphone
+    pub bias: bool,
+    pub pttdisabled: bool,
+    // of line-in, 0 to 31
+    pub gain: u8,
+    // plain numbers: C2's top three bits (0 to 7), C3 and C4
+    pub c2top: u8,
+    pub c3: u8,
+    pub c4: u8,
+}
+
 pub struct Host {
     pub mox: bool,
     // word 0
@@ -141,6 +166,8 @@ pub struct Host {
     pub controls: Controls,
     pub highpass: HighPass,
     pub lowpass: LowPass,
+    // word 10
+    pub front: Front,
 }
 
 impl Host {
@@ -199,6 +226,19 @@ impl Host {
                 m6: false,
                 m12: false,
                 m17: false,
+            },
+            front: Front {
+                preamp1: false,
+                preamp2: false,
+                preamp3: false,
+                preamp4: false,
+                jack: Jack::PttToRing,
+                bias: false,
+                pttdisabled: false,
+                gain: 0,
+                c2top: 0,
+                c3: 0,
+                c4: 0,
             },
         }
     }
@@ -382,6 +422,26 @@ impl Relay {
             1 => FoundRelay::Named(Relay::Tx2),
             2 => FoundRelay::Named(Relay::Tx3),
             _ => FoundRelay::Unassigned,
+        }
+    }
+}
+
+impl Jack {
+    pub fn code(self) -> u8
+        ensures { λ r. ⌜ (r ≡ jackCode self) × (r < 2) ⌝ }
+    {
+        match self {
+            Jack::PttToRing => 0,
+            Jack::PttToTip => 1,
+        }
+    }
+
+    pub fn of(code: u8) -> Jack
+        ensures { λ r. ⌜ r ≡ jackOf code ⌝ }
+    {
+        match code {
+            0 => Jack::PttToRing,
+            _ => Jack::PttToTip,
         }
     }
 }

@@ -3,8 +3,9 @@ ghost use mathlib.Core.Path.{_≡_};
 ghost use mathlib.Core.List.{_++_};
 ghost use Prim.Native.Nat.{_≤_};
 ghost use lib.ListN.{length, drop};
-ghost use Rattle.host.specs.Sent.{InRange, c1Of, c2Of, c3Of, c4Of, settingsBytes, switchesBytes, said, headOf};
+ghost use Rattle.host.specs.Sent.{InRange, c1Of, c2Of, c3Of, c4Of, settingsBytes, switchesBytes, frontC1, frontC2, frontBytes, said, headOf};
 ghost use Rattle.host.specs.Words.{lastWord};
+use crate::record::Front;
 use crate::record::Host;
 use wire::fields::eight_flags;
 use wire::fields::flag_of;
@@ -32,7 +33,8 @@ pub(crate) fn word_of(turn: u8, host: Host) -> [u8; 4]
             let at = (turn - 2) as usize;
             bytes_of_u32(host.frequencies[at])
         }
-        _ => switches_of(host),
+        9 => switches_of(host),
+        _ => front_bytes(host.front),
     }
 }
 
@@ -73,6 +75,33 @@ pub(crate) fn switches_of(host: Host) -> [u8; 4]
         ),
         eight_flags(l.m30, l.m60, l.m80, l.m160, l.m6, l.m12, l.m17, false),
     ]
+}
+
+pub(crate) fn front_bytes(front: Front) -> [u8; 4]
+    requires { ⌜ (front .gain ≤ 31) × (front .c2top ≤ 7) ⌝ }
+    ensures { λ r. ⌜ r ≡ frontBytes front ⌝ }
+{
+    [front_c1(front), front_c2(front), front.c3, front.c4]
+}
+
+pub(crate) fn front_c1(front: Front) -> u8
+    ensures { λ r. ⌜ r ≡ frontC1 front ⌝ }
+{
+    let jack = front.jack;
+    flag_of(front.preamp1)
+        + flag_of(front.preamp2) * 2
+        + flag_of(front.preamp3) * 4
+        + flag_of(front.preamp4) * 8
+        + jack.code() * 16
+        + flag_of(front.bias) * 32
+        + flag_of(front.pttdisabled) * 64
+}
+
+pub(crate) fn front_c2(front: Front) -> u8
+    requires { ⌜ (front .gain ≤ 31) × (front .c2top ≤ 7) ⌝ }
+    ensures { λ r. ⌜ r ≡ frontC2 front ⌝ }
+{
+    front.gain + front.c2top * 32
 }
 
 pub(crate) fn c1_of(host: Host) -> u8

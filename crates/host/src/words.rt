@@ -3,15 +3,17 @@ ghost use mathlib.Core.Path.{_≡_};
 ghost use Prim.Native.Nat.{suc, _≤_};
 ghost use lib.ListN.{length};
 ghost use Rattle.wire.specs.Answers.{first};
-ghost use Rattle.host.specs.Words.{source10Or, relayOr, controlsOf, highpassOf, lowpassOf, controlOf, unassigned, lastWord, heard, after};
+ghost use Rattle.host.specs.Words.{source10Or, relayOr, controlsOf, highpassOf, lowpassOf, frontOf, controlOf, unassigned, lastWord, heard, after};
 use crate::record::Antenna;
 use crate::record::Attenuator;
 use crate::record::Boards;
 use crate::record::Controls;
 use crate::record::FoundRelay;
 use crate::record::FoundSource10;
+use crate::record::Front;
 use crate::record::HighPass;
 use crate::record::Host;
+use crate::record::Jack;
 use crate::record::LowPass;
 use crate::record::Microphone;
 use crate::record::Relay;
@@ -62,6 +64,12 @@ pub(crate) fn reserved(c: Control) -> Answer
             }
             Answer::Accepted
         }
+        10 => {
+            if c.c1 / 128 % 2 == 1 {
+                return Answer::Reserved;
+            }
+            Answer::Accepted
+        }
         _ => Answer::Accepted,
     }
 }
@@ -76,7 +84,8 @@ pub(crate) fn next(c: Control, host: Host) -> Host
         1 => transmitter(c, host),
         2..=8 => frequency(address, c, host),
         9 => switches(c, host),
-        10..=255 => unlisted(c, host),
+        10 => front(c, host),
+        11..=255 => unlisted(c, host),
     }
 }
 
@@ -93,6 +102,7 @@ pub(crate) fn settings(c: Control, host: Host) -> Host
     let controls = host.controls;
     let highpass = host.highpass;
     let lowpass = host.lowpass;
+    let front = host.front;
     Host {
         mox: c.c0 % 2 == 1,
         speed: Speed::of(c1 % 4),
@@ -119,6 +129,7 @@ pub(crate) fn settings(c: Control, host: Host) -> Host
         controls,
         highpass,
         lowpass,
+        front,
     }
 }
 
@@ -151,6 +162,15 @@ pub(crate) fn switches(c: Control, mut host: Host) -> Host
     host.controls = controls;
     host.highpass = highpass;
     host.lowpass = lowpass;
+    host
+}
+
+pub(crate) fn front(c: Control, mut host: Host) -> Host
+    ensures { λ r. ⌜ r ≡ heard 10 c host ⌝ }
+{
+    host.mox = c.c0 % 2 == 1;
+    let front = front_of(c);
+    host.front = front;
     host
 }
 
@@ -221,5 +241,25 @@ pub(crate) fn lowpass_of(c4: u8) -> LowPass
         m6: c4 / 16 % 2 == 1,
         m12: c4 / 32 % 2 == 1,
         m17: c4 / 64 % 2 == 1,
+    }
+}
+
+pub(crate) fn front_of(c: Control) -> Front
+    ensures { λ r. ⌜ r ≡ frontOf c ⌝ }
+{
+    let c1 = c.c1;
+    let c2 = c.c2;
+    Front {
+        preamp1: c1 % 2 == 1,
+        preamp2: c1 / 2 % 2 == 1,
+        preamp3: c1 / 4 % 2 == 1,
+        preamp4: c1 / 8 % 2 == 1,
+        jack: Jack::of(c1 / 16 % 2),
+        bias: c1 / 32 % 2 == 1,
+        pttdisabled: c1 / 64 % 2 == 1,
+        gain: c2 % 32,
+        c2top: c2 / 32 % 8,
+        c3: c.c3,
+        c4: c.c4,
     }
 }

@@ -69,17 +69,35 @@ shared-slice-read-relay-of c = search needs
 relay-of-requires : tie.Need-relay-of-requires
 relay-of-requires c κs = search needs
 
+shared-slice-read-of-7 : tie.Need-shared-slice-read-of-7
+shared-slice-read-of-7 c = search needs
+
+cast-of-7 : tie.Need-cast-of-7
+cast-of-7 c = search needs
+
+of-requires-7 : tie.Need-of-requires-7
+of-requires-7 c κs = search needs
+
 returns : tie.Need-returns
 returns c =
+    let relay = c .before .before in
+    let antenna = relay .before .before in
+    let attenuator = antenna .before .before in
+    let microphone = attenuator .before .before in
+    let boards = microphone .before .before in
+    let source122 = boards .before .before in
+    let source10 = source122 .before .before in
+    let speed = source10 .before .before in
     λ i. record {
-      speed = (c .before .before .before .before .before .before .before .before .before .before .before .before .before .before .of .ensures) i;
-      source10 = (c .before .before .before .before .before .before .before .before .before .before .before .before .source10-of .ensures) i;
-      source122 = (c .before .before .before .before .before .before .before .before .before .before .of2 .ensures) i;
-      boards = (c .before .before .before .before .before .before .before .before .of3 .ensures) i;
-      microphone = (c .before .before .before .before .before .before .of4 .ensures) i;
-      attenuator = (c .before .before .before .before .of5 .ensures) i;
-      antenna = (c .before .before .of6 .ensures) i;
-      relay = (c .relay-of .ensures) i;
+      speed = speed .of .ensures i;
+      source10 = source10 .source10-of .ensures i;
+      source122 = source122 .of2 .ensures i;
+      boards = boards .of3 .ensures i;
+      microphone = microphone .of4 .ensures i;
+      attenuator = attenuator .of5 .ensures i;
+      antenna = antenna .of6 .ensures i;
+      relay = relay .relay-of .ensures i;
+      jack = c .of7 .ensures i;
     }
 
 pub choices-of-spec : {M : Type 1} → statement M
@@ -108,4 +126,7 @@ choices-of-spec =
     of-requires-6
     shared-slice-read-relay-of
     relay-of-requires
+    shared-slice-read-of-7
+    cast-of-7
+    of-requires-7
     returns)

@@ -27,17 +27,29 @@ code-requires-7 c κs = search needs
 code-requires-8 : tie.Need-code-requires-8
 code-requires-8 c κs = search needs
 
+code-requires-9 : tie.Need-code-requires-9
+code-requires-9 c κs = search needs
+
 returns : tie.Need-returns
 returns c =
+    let relay = c .before in
+    let antenna = relay .before in
+    let attenuator = antenna .before in
+    let microphone = attenuator .before in
+    let boards = microphone .before in
+    let source122 = boards .before in
+    let source10 = source122 .before in
+    let speed = source10 .before in
     λ i. record {
-      speed = (c .before .before .before .before .before .before .before .code .ensures .0) i;
-      source10 = (c .before .before .before .before .before .before .code2 .ensures .0) i;
-      source122 = (c .before .before .before .before .before .code3 .ensures .0) i;
-      boards = (c .before .before .before .before .code4 .ensures .0) i;
-      microphone = (c .before .before .before .code5 .ensures .0) i;
-      attenuator = (c .before .before .code6 .ensures .0) i;
-      antenna = (c .before .code7 .ensures .0) i;
-      relay = (c .code8 .ensures .0) i;
+      speed = speed .code .ensures .0 i;
+      source10 = source10 .code2 .ensures .0 i;
+      source122 = source122 .code3 .ensures .0 i;
+      boards = boards .code4 .ensures .0 i;
+      microphone = microphone .code5 .ensures .0 i;
+      attenuator = attenuator .code6 .ensures .0 i;
+      antenna = antenna .code7 .ensures .0 i;
+      relay = relay .code8 .ensures .0 i;
+      jack = c .code9 .ensures .0 i;
     }
 
 pub codes-of-spec : {M : Type 1} → statement M
@@ -52,4 +64,5 @@ codes-of-spec =
     code-requires-6
     code-requires-7
     code-requires-8
+    code-requires-9
     returns)

@@ -3,7 +3,7 @@ use mathlib.Core.Path.{sym, _∙_}
 use native.Mathlib.Omega.{arith}
 use borrow.Author.Needs.{needs}
 use Rattle.host.specs.Sent.{said}
-use Rattle.host.proofs.Saying.{said-frequency, said-switches}
+use Rattle.host.proofs.Saying.{said-frequency, said-front}
 use Rattle.host.proofs.sent.word_of.Statement.{statement}
 use Rattle.host.proofs.sent.word_of.Tie as tie
 
@@ -12,6 +12,9 @@ settings-of-requires c κs = search needs
 
 bytes-of-u32-requires : tie.Need-bytes-of-u32-requires
 bytes-of-u32-requires c κs = search needs
+
+switches-of-requires : tie.Need-switches-of-requires
+switches-of-requires c κs = search needs
 
 sub-at : tie.Need-sub-at
 sub-at c = search needs
@@ -28,8 +31,8 @@ element-copy-out-bytes-of-u32 c = search needs
 bytes-of-u32-requires-2 : tie.Need-bytes-of-u32-requires-2
 bytes-of-u32-requires-2 c κs = search needs
 
-switches-of-requires : tie.Need-switches-of-requires
-switches-of-requires c κs = search needs
+front-bytes-requires : tie.Need-front-bytes-requires
+front-bytes-requires c κs = let range = c .before .before .before .pre in (range .gain, range .top)
 
 returns : tie.Need-returns
 unfolding said
@@ -40,10 +43,14 @@ unfolding said
 returns-2 c = rw (c .before .match .keys2) (c .bytes-of-u32 .ensures)
 
 returns-3 : tie.Need-returns-3
-returns-3 c = c .bytes-of-u322 .ensures ∙ sym (said-frequency _ _ (omega arith) (omega arith))
+unfolding said
+returns-3 c = rw (c .before .match .keys3) (c .switches-of .ensures)
 
 returns-4 : tie.Need-returns-4
-returns-4 c = c .switches-of .ensures ∙ sym (said-switches _ _ (omega arith))
+returns-4 c = c .bytes-of-u322 .ensures ∙ sym (said-frequency _ _ (omega arith) (omega arith))
+
+returns-5 : tie.Need-returns-5
+returns-5 c = c .front-bytes .ensures ∙ sym (said-front _ _ (omega arith))
 
 pub word-of-spec : {M : Type 1} → statement M
 word-of-spec =
@@ -51,13 +58,15 @@ word-of-spec =
     (tie.spec
     settings-of-requires
     bytes-of-u32-requires
+    switches-of-requires
     sub-at
     cast-at
     mul-bytes-of-u32
     element-copy-out-bytes-of-u32
     bytes-of-u32-requires-2
-    switches-of-requires
+    front-bytes-requires
     returns
     returns-2
     returns-3
-    returns-4)
+    returns-4
+    returns-5)

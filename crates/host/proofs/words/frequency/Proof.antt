@@ -27,8 +27,8 @@ unfolding heard
 returns c =
     let given = c .before .before in
     let a = given .args .a in
-    let other = tests a (given .pre .0) (omega arith) in
-    rw (c .be32 .ensures, on-low (given .args .c .c0), other .settings, other .transmitter, other .switches, receiver-tunes a (given .pre .0) (given .pre .1))
+    let other = tests a (given .pre .0) (omega arith) (omega arith) in
+    rw (c .be32 .ensures, on-low (given .args .c .c0), other .settings, other .transmitter, other .switches, other .front, receiver-tunes a (given .pre .0) (given .pre .1))
 
 pub frequency-spec : {M : Type 1} → statement M
 frequency-spec =

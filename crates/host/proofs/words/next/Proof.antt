@@ -15,6 +15,9 @@ transmitter-requires c κs = search needs
 switches-requires : tie.Need-switches-requires
 switches-requires c κs = search needs
 
+front-requires : tie.Need-front-requires
+front-requires c κs = search needs
+
 frequency-requires : tie.Need-frequency-requires
 frequency-requires c κs = search needs
 
@@ -31,10 +34,13 @@ returns-3 : tie.Need-returns-3
 returns-3 c = rw (c .before .match .keys3) (c .switches .ensures)
 
 returns-4 : tie.Need-returns-4
-returns-4 c = search needs
+returns-4 c = rw (c .before .match .keys4) (c .front .ensures)
 
 returns-5 : tie.Need-returns-5
-returns-5 c = c .unlisted .ensures ∙ sym (unlisted-same _ _ _ (omega arith))
+returns-5 c = search needs
+
+returns-6 : tie.Need-returns-6
+returns-6 c = c .unlisted .ensures ∙ sym (unlisted-same _ _ _ (omega arith))
 
 pub next-spec : {M : Type 1} → statement M
 next-spec =
@@ -43,10 +49,12 @@ next-spec =
     settings-requires
     transmitter-requires
     switches-requires
+    front-requires
     frequency-requires
     unlisted-requires
     returns
     returns-2
     returns-3
     returns-4
-    returns-5)
+    returns-5
+    returns-6)

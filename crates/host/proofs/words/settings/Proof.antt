@@ -19,7 +19,7 @@ returns c =
     let source122 = boards .before in
     let source10 = source122 .before in
     let speed = source10 .before .before in
-    let given = speed .before .before .before .before .before .before .args in
+    let given = speed .before .before .before .before .before .before .before .args in
     let b = given .c in
     let h = given .host in
     λ i.
@@ -49,6 +49,7 @@ returns c =
       controls = h .controls;
       highpass = h .highpass;
       lowpass = h .lowpass;
+      front = h .front;
     }
 
 pub settings-spec : {M : Type 1} → statement M
