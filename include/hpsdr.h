@@ -28,7 +28,7 @@ extern "C" {
 
 enum hpsdr_answer {
     HPSDR_ACCEPTED = 0,     /* the call did its work */
-    HPSDR_BAD_STATE = 1,    /* the stream record is unsound, the turn is above 9, or cells hold no record */
+    HPSDR_BAD_STATE = 1,    /* the stream record is unsound, the turn is above 10, or cells hold no record */
     HPSDR_BAD_COUNT = 2,    /* the receiver count is not 1 to 8 */
     HPSDR_LENGTH = 3,       /* the frame is not 512 bytes, or the piece is above 4,096 */
     HPSDR_SHORT_BUFFER = 4, /* a sample slice is shorter than needed, or the output is under 4,096 bytes */
@@ -101,6 +101,8 @@ enum hpsdr_microphone { HPSDR_MICROPHONE_JANUS, HPSDR_MICROPHONE_PENELOPE };
 enum hpsdr_attenuator { HPSDR_0_DB, HPSDR_10_DB, HPSDR_20_DB, HPSDR_30_DB };
 enum hpsdr_antenna { HPSDR_NO_ANTENNA, HPSDR_ANTENNA_RX1, HPSDR_ANTENNA_RX2, HPSDR_ANTENNA_XV };
 enum hpsdr_relay { HPSDR_TX1, HPSDR_TX2, HPSDR_TX3 };
+/* Orion's microphone jack; the microphone goes to the other contact. */
+enum hpsdr_jack { HPSDR_PTT_TO_RING, HPSDR_PTT_TO_TIP };
 
 /* What a host tells its radio. A flag is 1 or 0, a choice is its code. */
 struct hpsdr_host {
@@ -129,18 +131,25 @@ struct hpsdr_host {
     uint32_t mic_boost, line_in, apollo_filter, apollo_tuner, auto_tune, filter_board, manual_filters, vna;
     uint32_t high_pass_13, high_pass_20, high_pass_9_5, high_pass_6_5, high_pass_1_5, bypass, amplifier_6m, tr_disabled;
     uint32_t low_pass_30_20, low_pass_60_40, low_pass_80, low_pass_160, low_pass_6, low_pass_12_10, low_pass_17_15;
+    /* word 10 */
+    uint32_t rx_preamps[4];        /* of receivers 1 to 4; word 0's `preamp` is a field of its own */
+    uint32_t orion_jack;           /* enum hpsdr_jack */
+    uint32_t mic_bias, mic_ptt_disabled;
+    uint32_t line_in_gain;         /* a cell holds up to 255, a frame up to 31 */
+    uint32_t word10_c2_top;        /* bits 7-5 of C2, a plain number: a cell holds up to 255, a frame up to 7 */
+    uint32_t word10_c3, word10_c4; /* C3 and C4, plain numbers, 0 to 255 */
 };
 
 /* The record that all-zero words give: one receiver. Refusal: BAD_STATE. */
 uint32_t hpsdr_host_fresh(struct hpsdr_host *host, size_t host_cells);
 
 /* Reads a frame: its 252 numbers to the start of `audio`, its word into the record where it stands. Found: the
- * word's address, 0 to 127, of which 0 to 9 are listed. Refusals: BAD_STATE, LENGTH, SHORT_BUFFER, NO_SYNC,
+ * word's address, 0 to 127, of which 0 to 10 are listed. Refusals: BAD_STATE, LENGTH, SHORT_BUFFER, NO_SYNC,
  * RESERVED. */
 uint32_t hpsdr_host_read(const uint8_t *frame, size_t frame_length, int16_t *audio, size_t audio_length,
                          struct hpsdr_host *host, size_t host_cells);
 
-/* A host record and the word that is due, 0 to 9. */
+/* A host record and the word that is due, 0 to 10. */
 struct hpsdr_builder {
     struct hpsdr_host host;
     uint32_t turn;
@@ -149,7 +158,7 @@ struct hpsdr_builder {
 /* A fresh host record, and turn 0. Refusal: BAD_STATE. */
 uint32_t hpsdr_builder_fresh(struct hpsdr_builder *builder, size_t builder_cells);
 
-/* Writes the frame whose word is due, with the first 252 numbers of `audio`, and moves the turn on by one, 9
+/* Writes the frame whose word is due, with the first 252 numbers of `audio`, and moves the turn on by one, 10
  * going to 0. Refusals: BAD_STATE, LENGTH, SHORT_BUFFER, RANGE. */
 uint32_t hpsdr_build(struct hpsdr_builder *builder, size_t builder_cells, const int16_t *audio, size_t audio_length,
                      uint8_t *frame, size_t frame_length);
@@ -180,8 +189,8 @@ uint32_t hpsdr_stream_feed(struct hpsdr_counts *counts, size_t counts_cells, uin
 /* The number of cells of a record, for the argument after it. */
 #define HPSDR_ROW_CELLS (sizeof(struct hpsdr_row) / sizeof(uint32_t))         /* 3 */
 #define HPSDR_STATUS_CELLS (sizeof(struct hpsdr_status) / sizeof(uint32_t))   /* 26 */
-#define HPSDR_HOST_CELLS (sizeof(struct hpsdr_host) / sizeof(uint32_t))       /* 51 */
-#define HPSDR_BUILDER_CELLS (sizeof(struct hpsdr_builder) / sizeof(uint32_t)) /* 52 */
+#define HPSDR_HOST_CELLS (sizeof(struct hpsdr_host) / sizeof(uint32_t))       /* 62 */
+#define HPSDR_BUILDER_CELLS (sizeof(struct hpsdr_builder) / sizeof(uint32_t)) /* 63 */
 #define HPSDR_COUNTS_CELLS (sizeof(struct hpsdr_counts) / sizeof(uint64_t))   /* 4 */
 
 #ifdef __cplusplus

@@ -9,7 +9,7 @@
 #include <stdio.h>
 #include <string.h>
 
-enum { MOST_RECEIVERS = 8, MOST_IQ = 160, MOST_MIC = 63, LAST_WORD = 4, LAST_TURN = 9, FIRST_PAYLOAD = 8 };
+enum { MOST_RECEIVERS = 8, MOST_IQ = 160, MOST_MIC = 63, LAST_WORD = 4, LAST_TURN = 10, FIRST_PAYLOAD = 8 };
 #define MOST_BYTES (UINT64_C(1) << 48)
 
 /* All that can be lent. Of each three the middle one is lent, and the other two are its guards. */
@@ -202,13 +202,17 @@ static void test_too_few_cells(void) {
     pass.builder--;
     pass.counts--;
     refuse("status fresh of 25 cells", status_fresh, HPSDR_BAD_STATE);
-    refuse("host fresh of 50 cells", host_fresh, HPSDR_BAD_STATE);
-    refuse("builder fresh of 51 cells", builder_fresh, HPSDR_BAD_STATE);
+    refuse("host fresh of 61 cells", host_fresh, HPSDR_BAD_STATE);
+    refuse("builder fresh of 62 cells", builder_fresh, HPSDR_BAD_STATE);
     refuse("stream fresh of 3 counts", stream_fresh, HPSDR_BAD_STATE);
     pass.counts = HPSDR_COUNTS_CELLS;
     pass.held--;
     refuse("stream fresh of 513 bytes", stream_fresh, HPSDR_BAD_STATE);
     set_out();
+    pass.host--;
+    pass.builder--;
+    refuse("host read of 61 cells", host_read, HPSDR_BAD_STATE);
+    refuse("build of 62 cells", build, HPSDR_BAD_STATE);
     pass.status = pass.host = pass.builder = pass.counts = 0;
     refuse("radio read without a record", radio_read, HPSDR_BAD_STATE);
     refuse("radio write without a record", radio_write, HPSDR_BAD_STATE);
@@ -233,7 +237,9 @@ static const int64_t status_most[] = {
 static const int64_t builder_most[] = {
     1, 3, 2, 1, 3, 1, 1, BYTE, 3, 1, 1, 1, 3, 1, 2, 1, BYTE, 1, 1, /* MOX and word 0 */
     ANY, ANY, ANY, ANY, ANY, ANY, ANY, ANY,                         /* words 1 to 8 */
-    BYTE, 1, 1, 1, 1, 1, 1, 1, 1, 1, 1, 1, 1, 1, 1, 1, 1, 1, 1, 1, 1, 1, 1, 1, LAST_TURN};
+    BYTE, 1, 1, 1, 1, 1, 1, 1, 1, 1, 1, 1, 1, 1, 1, 1, 1, 1, 1, 1, 1, 1, 1, 1, /* word 9 */
+    1, 1, 1, 1, 1, 1, 1, BYTE, BYTE, BYTE, BYTE,                    /* word 10 */
+    BYTE /* the turn */};
 
 static void refuse_above(const char *what, uint32_t (*call)(void), uint32_t *cell, int64_t most) {
     if (most == ANY)
@@ -523,16 +529,18 @@ static const struct hpsdr_host full_host = {
     .frequencies = {0x11121314, 0x21222324, 0x31323334, 0x41424344, 0x51525354, 0x61626364, 0xFFFEFDFC},
     .drive = 0xA5, .mic_boost = 1, .apollo_filter = 1, .apollo_tuner = 1, .manual_filters = 1,
     .high_pass_20 = 1, .high_pass_9_5 = 1, .high_pass_1_5 = 1, .tr_disabled = 1,
-    .low_pass_30_20 = 1, .low_pass_80 = 1, .low_pass_12_10 = 1, .low_pass_17_15 = 1};
+    .low_pass_30_20 = 1, .low_pass_80 = 1, .low_pass_12_10 = 1, .low_pass_17_15 = 1,
+    .rx_preamps = {1, 0, 1, 1}, .orion_jack = HPSDR_PTT_TO_TIP, .mic_ptt_disabled = 1,
+    .line_in_gain = 19, .word10_c2_top = 6, .word10_c3 = 0xB7, .word10_c4 = 0x8E};
 static const uint8_t full_host_words[LAST_TURN + 1][5] = {
     {0x01, 0xCB, 0xAA, 0x55, 0x7A}, {0x03, 0x01, 0x02, 0x03, 0x04}, {0x05, 0x11, 0x12, 0x13, 0x14},
     {0x07, 0x21, 0x22, 0x23, 0x24}, {0x09, 0x31, 0x32, 0x33, 0x34}, {0x0B, 0x41, 0x42, 0x43, 0x44},
     {0x0D, 0x51, 0x52, 0x53, 0x54}, {0x0F, 0x61, 0x62, 0x63, 0x64}, {0x11, 0xFF, 0xFE, 0xFD, 0xFC},
-    {0x13, 0xA5, 0x4D, 0x96, 0x65}};
+    {0x13, 0xA5, 0x4D, 0x96, 0x65}, {0x15, 0x5D, 0xD3, 0xB7, 0x8E}};
 
-/* The words in the order 9 to 0 on a fresh record: after each the record has the full one's cells from it on. */
+/* The words in the order 10 to 0 on a fresh record: after each the record has the full one's cells from it on. */
 static void test_host_words(size_t more) {
-    static const size_t first_cell[] = {1, 19, 20, 21, 22, 23, 24, 25, 26, 27};
+    static const size_t first_cell[] = {1, 19, 20, 21, 22, 23, 24, 25, 26, 27, 51};
     set_out();
     pass.host += more;
     pass.audio += more;
@@ -585,21 +593,30 @@ static void test_host_cell(const uint8_t control[5], size_t cell, uint32_t value
 
 #define HOST_CELL(member) (offsetof(struct hpsdr_host, member) / sizeof(uint32_t))
 
-/* Each code of word 0 by itself, up to the last that is assigned. */
+/* Each code of words 0 and 10 by itself, up to the last that is assigned. */
 static void test_codes(void) {
     static const struct {
+        uint8_t word;
         size_t cell;
         unsigned byte, bit;
         uint32_t last;
-    } codes[] = {{HOST_CELL(speed), 1, 0, 3},        {HOST_CELL(source10), 1, 2, 2},   {HOST_CELL(source122), 1, 4, 1},
-                 {HOST_CELL(boards), 1, 5, 3},       {HOST_CELL(microphone), 1, 7, 1}, {HOST_CELL(class_e), 2, 0, 1},
-                 {HOST_CELL(outputs), 2, 1, 127},    {HOST_CELL(attenuator), 3, 0, 3}, {HOST_CELL(preamp), 3, 2, 1},
-                 {HOST_CELL(dither), 3, 3, 1},       {HOST_CELL(random), 3, 4, 1},     {HOST_CELL(antenna), 3, 5, 3},
-                 {HOST_CELL(rx_out), 3, 7, 1},       {HOST_CELL(relay), 4, 0, 2},      {HOST_CELL(duplex), 4, 2, 1},
-                 {HOST_CELL(time_stamp), 4, 6, 1},   {HOST_CELL(common_frequency), 4, 7, 1}};
+    } codes[] = {{0, HOST_CELL(speed), 1, 0, 3},            {0, HOST_CELL(source10), 1, 2, 2},
+                 {0, HOST_CELL(source122), 1, 4, 1},        {0, HOST_CELL(boards), 1, 5, 3},
+                 {0, HOST_CELL(microphone), 1, 7, 1},       {0, HOST_CELL(class_e), 2, 0, 1},
+                 {0, HOST_CELL(outputs), 2, 1, 127},        {0, HOST_CELL(attenuator), 3, 0, 3},
+                 {0, HOST_CELL(preamp), 3, 2, 1},           {0, HOST_CELL(dither), 3, 3, 1},
+                 {0, HOST_CELL(random), 3, 4, 1},           {0, HOST_CELL(antenna), 3, 5, 3},
+                 {0, HOST_CELL(rx_out), 3, 7, 1},           {0, HOST_CELL(relay), 4, 0, 2},
+                 {0, HOST_CELL(duplex), 4, 2, 1},           {0, HOST_CELL(time_stamp), 4, 6, 1},
+                 {0, HOST_CELL(common_frequency), 4, 7, 1}, {10, HOST_CELL(rx_preamps[0]), 1, 0, 1},
+                 {10, HOST_CELL(rx_preamps[1]), 1, 1, 1},   {10, HOST_CELL(rx_preamps[2]), 1, 2, 1},
+                 {10, HOST_CELL(rx_preamps[3]), 1, 3, 1},   {10, HOST_CELL(orion_jack), 1, 4, 1},
+                 {10, HOST_CELL(mic_bias), 1, 5, 1},        {10, HOST_CELL(mic_ptt_disabled), 1, 6, 1},
+                 {10, HOST_CELL(line_in_gain), 2, 0, 31},   {10, HOST_CELL(word10_c2_top), 2, 5, 7},
+                 {10, HOST_CELL(word10_c3), 3, 0, BYTE},    {10, HOST_CELL(word10_c4), 4, 0, BYTE}};
     for (size_t at = 0; at < sizeof codes / sizeof *codes; at++)
         for (uint32_t code = 0; code <= codes[at].last; code++) {
-            uint8_t control[5] = {0};
+            uint8_t control[5] = {(uint8_t)(codes[at].word << 1)};
             control[codes[at].byte] = (uint8_t)(code << codes[at].bit);
             test_host_cell(control, codes[at].cell, code);
         }
@@ -621,9 +638,28 @@ static void test_mox(void) {
         test_host_cell((const uint8_t[]){(uint8_t)(address << 1 | 1), 0, 0, 0, 0}, HOST_CELL(mox), 1);
 }
 
+static void test_unlisted_host_words(void) {
+    for (uint8_t address = LAST_TURN + 1; address < 128; address++) {
+        set_out();
+        lent.host[1] = full_host;
+        set_control(lent.frame[1], (const uint8_t[]){(uint8_t)(address << 1), 0xFF, 0xFF, 0xFF, 0xFF});
+        expect_unchanged();
+        memset(expected.audio[1], 0, sizeof expected.audio[1]);
+        expected.host[1].mox = 0;
+        run("host read of an unlisted word", host_read, HPSDR_ACCEPTED, address);
+    }
+}
+
 static void test_host_read_refusals(void) {
+    static const struct {
+        const char *what;
+        uint8_t control[5];
+    } reserved[] = {{"host read of relay 3", {1, 0, 0, 0, 0x17}},
+                    {"host read of source 3", {0, 0x0C, 0, 0, 0}},
+                    {"host read of word 9's C4 bit 7", {9 << 1, 0, 0, 0, 0x80}},
+                    {"host read of word 10's C1 bit 7", {10 << 1, 0x80, 0, 0, 0}}};
     set_out();
-    set_control(lent.frame[1], (const uint8_t[]){1, 0, 0, 0, 0x17});
+    set_control(lent.frame[1], reserved[0].control);
     lent.frame[1][0] = 0;
     lent.host[1].relay = 3;
     pass.audio = HPSDR_AUDIO - 1;
@@ -638,21 +674,39 @@ static void test_host_read_refusals(void) {
     pass.audio = HPSDR_AUDIO;
     refuse("host read without sync", host_read, HPSDR_NO_SYNC);
     lent.frame[1][0] = 0x7F;
-    refuse("host read of relay 3", host_read, HPSDR_RESERVED);
-    set_control(lent.frame[1], (const uint8_t[]){0, 0x0C, 0, 0, 0});
-    refuse("host read of source 3", host_read, HPSDR_RESERVED);
-    set_control(lent.frame[1], (const uint8_t[]){9 << 1, 0, 0, 0, 0x80});
-    refuse("host read of word 9's last bit", host_read, HPSDR_RESERVED);
+    for (size_t at = 0; at < sizeof reserved / sizeof *reserved; at++) {
+        set_control(lent.frame[1], reserved[at].control);
+        refuse(reserved[at].what, host_read, HPSDR_RESERVED);
+    }
+}
+
+static void test_turns_past_the_last(void) {
+    set_out();
+    for (uint32_t turn = LAST_TURN + 1; turn <= BYTE; turn++) {
+        lent.builder[1].turn = turn;
+        refuse("build of a turn past the last", build, HPSDR_BAD_STATE);
+    }
 }
 
 static void test_build_refusals(void) {
+    static const struct {
+        const char *what;
+        size_t cell;
+        uint32_t value;
+    } strays[] = {{"build of outputs 128", HOST_CELL(outputs), 128},
+                  {"build of 0 receivers", HOST_CELL(receivers), 0},
+                  {"build of 9 receivers", HOST_CELL(receivers), 9},
+                  {"build of gain 32", HOST_CELL(line_in_gain), 32},
+                  {"build of gain 255", HOST_CELL(line_in_gain), BYTE},
+                  {"build of top bits 8", HOST_CELL(word10_c2_top), 8},
+                  {"build of top bits 255", HOST_CELL(word10_c2_top), BYTE}};
     for (uint32_t turn = 0; turn <= LAST_TURN; turn++) {
         set_out();
         lent.builder[1].host.outputs = 128;
-        lent.builder[1].turn = 10;
+        lent.builder[1].turn = 11;
         pass.frame = 511;
         pass.audio = HPSDR_AUDIO - 1;
-        refuse("build of turn 10", build, HPSDR_BAD_STATE);
+        refuse("build of turn 11", build, HPSDR_BAD_STATE);
         lent.builder[1].turn = turn;
         refuse("build to 511 bytes", build, HPSDR_LENGTH);
         pass.frame = 513;
@@ -660,12 +714,11 @@ static void test_build_refusals(void) {
         pass.frame = 512;
         refuse("build of 251 numbers", build, HPSDR_SHORT_BUFFER);
         pass.audio = HPSDR_AUDIO;
-        refuse("build of outputs 128", build, HPSDR_RANGE);
-        lent.builder[1].host.outputs = 127;
-        lent.builder[1].host.receivers = 0;
-        refuse("build of 0 receivers", build, HPSDR_RANGE);
-        lent.builder[1].host.receivers = 9;
-        refuse("build of 9 receivers", build, HPSDR_RANGE);
+        for (size_t at = 0; at < sizeof strays / sizeof *strays; at++) {
+            lent.builder[1].host = fresh_host;
+            ((uint32_t *)&lent.builder[1].host)[strays[at].cell] = strays[at].value;
+            refuse(strays[at].what, build, HPSDR_RANGE);
+        }
     }
 }
 
@@ -855,7 +908,9 @@ int main(void) {
     test_codes();
     test_filter_bits();
     test_mox();
+    test_unlisted_host_words();
     test_host_read_refusals();
+    test_turns_past_the_last();
     test_build_refusals();
     test_sound();
     test_feed_refusals();

@@ -20,6 +20,7 @@ static const uint32_t host_most[HPSDR_HOST_CELLS] = {
     1, 3, 2, 1, 3, 1, 1, 255, 3, 1, 1, 1, 3, 1, 2, 1, 255, 1, 1,
     UINT32_MAX, UINT32_MAX, UINT32_MAX, UINT32_MAX, UINT32_MAX, UINT32_MAX, UINT32_MAX, UINT32_MAX,
     255, 1, 1, 1, 1, 1, 1, 1, 1, 1, 1, 1, 1, 1, 1, 1, 1, 1, 1, 1, 1, 1, 1, 1,
+    1, 1, 1, 1, 1, 1, 1, 255, 255, 255, 255,
 };
 
 static bool holds(const void *record, size_t cells, const uint32_t *most, size_t needed)
@@ -194,6 +195,8 @@ static bool sets_reserved(const uint8_t *control)
         return (control[1] >> 2 & 3) == 3 || (control[4] & 3) == 3;
     case 9:
         return bit(control[4], 7);
+    case 10:
+        return bit(control[1], 7);
     default:
         return false;
     }
@@ -221,6 +224,18 @@ static void take_settings(struct hpsdr_host *host, const uint8_t *control)
     host->common_frequency = bit(control[4], 7);
 }
 
+static void take_word_10(struct hpsdr_host *host, const uint8_t *control)
+{
+    spread(control[1], host->rx_preamps, 4);
+    host->orion_jack = bit(control[1], 4);
+    host->mic_bias = bit(control[1], 5);
+    host->mic_ptt_disabled = bit(control[1], 6);
+    host->line_in_gain = control[2] & 31;
+    host->word10_c2_top = control[2] >> 5;
+    host->word10_c3 = control[3];
+    host->word10_c4 = control[4];
+}
+
 static uint32_t take_host_word(struct hpsdr_host *host, const uint8_t *control)
 {
     uint32_t address = control[0] >> 1;
@@ -240,6 +255,9 @@ static uint32_t take_host_word(struct hpsdr_host *host, const uint8_t *control)
         spread(control[2], &host->mic_boost, 8);
         spread(control[3], &host->high_pass_13, 8);
         spread(control[4], &host->low_pass_30_20, 7);
+        break;
+    case 10:
+        take_word_10(host, control);
         break;
     }
     return address;

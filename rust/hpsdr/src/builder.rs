@@ -3,12 +3,12 @@ use crate::host::Host;
 use crate::raw;
 use crate::refusal::{found, Refusal};
 
-/// A host record and the word that is due. A record left unchanged is wholly sent within ten accepted builds.
+/// A host record and the word that is due. A record left unchanged is wholly sent within eleven accepted builds.
 #[derive(Clone, Copy, Debug, PartialEq, Eq)]
 pub struct Builder {
     /// What the host tells its radio.
     pub host: Host,
-    /// The address of the word that is due, 0 to 9.
+    /// The address of the word that is due, 0 to 10.
     pub turn: u8,
 }
 
@@ -56,7 +56,7 @@ impl Builder {
         cells.builder()
     }
 
-    /// Writes the frame whose word is due, with the first 252 numbers of `audio`, and moves the turn on by one, 9
+    /// Writes the frame whose word is due, with the first 252 numbers of `audio`, and moves the turn on by one, 10
     /// going to 0. The whole record is tested, whichever word is due.
     ///
     /// Refusals: `BadState`, `Length`, `ShortBuffer`, `Range`.

@@ -162,3 +162,16 @@ pub enum Relay {
 impl Choice for Relay {
     const BY_CODE: &'static [Relay] = &[Relay::Tx1, Relay::Tx2, Relay::Tx3];
 }
+
+/// The contact of Orion's microphone jack to which the PTT goes; the microphone goes to the other.
+#[derive(Clone, Copy, Debug, PartialEq, Eq, Hash)]
+pub enum Jack {
+    /// PTT to the ring, microphone to the tip.
+    PttToRing,
+    /// PTT to the tip, microphone to the ring.
+    PttToTip,
+}
+
+impl Choice for Jack {
+    const BY_CODE: &'static [Jack] = &[Jack::PttToRing, Jack::PttToTip];
+}

@@ -1,5 +1,7 @@
 use crate::cells::{Record, Way};
-use crate::choices::{Antenna, Attenuator, Boards, Microphone, Relay, Source10, Source122, Speed};
+use crate::choices::{
+    Antenna, Attenuator, Boards, Jack, Microphone, Relay, Source10, Source122, Speed,
+};
 use crate::raw;
 use crate::refusal::{found, Refusal};
 
@@ -96,6 +98,22 @@ pub struct Host {
     pub low_pass_12_10: bool,
     /// Word 9: low-pass 17/15 m.
     pub low_pass_17_15: bool,
+    /// Word 10: the preamps of receivers 1 to 4. Word 0's `preamp` is a field of its own.
+    pub rx_preamps: [bool; 4],
+    /// Word 10: the contacts of Orion's microphone jack.
+    pub orion_jack: Jack,
+    /// Word 10: microphone bias.
+    pub mic_bias: bool,
+    /// Word 10: microphone PTT disabled.
+    pub mic_ptt_disabled: bool,
+    /// Word 10: the line-in gain; a frame holds up to 31.
+    pub line_in_gain: u8,
+    /// Word 10: bits 7 to 5 of C2, as a plain number; a frame holds up to 7.
+    pub word10_c2_top: u8,
+    /// Word 10: C3, as a plain number.
+    pub word10_c3: u8,
+    /// Word 10: C4, as a plain number.
+    pub word10_c4: u8,
 }
 
 impl Record<{ raw::HOST_CELLS }> for Host {
@@ -147,6 +165,14 @@ impl Record<{ raw::HOST_CELLS }> for Host {
             low_pass_6: way.pass(|host| host.low_pass_6),
             low_pass_12_10: way.pass(|host| host.low_pass_12_10),
             low_pass_17_15: way.pass(|host| host.low_pass_17_15),
+            rx_preamps: std::array::from_fn(|at| way.pass(|host| host.rx_preamps[at])),
+            orion_jack: way.pass(|host| host.orion_jack),
+            mic_bias: way.pass(|host| host.mic_bias),
+            mic_ptt_disabled: way.pass(|host| host.mic_ptt_disabled),
+            line_in_gain: way.pass(|host| host.line_in_gain),
+            word10_c2_top: way.pass(|host| host.word10_c2_top),
+            word10_c3: way.pass(|host| host.word10_c3),
+            word10_c4: way.pass(|host| host.word10_c4),
         }
     }
 }
@@ -169,7 +195,7 @@ impl Host {
     }
 
     /// Reads a frame: its 252 numbers to the start of `audio`, its word into the record. Gives the word's address,
-    /// 0 to 127, of which 0 to 9 are listed.
+    /// 0 to 127, of which 0 to 10 are listed.
     ///
     /// Refusals: `Length`, `ShortBuffer`, `NoSync`, `Reserved`.
     ///
@@ -182,6 +208,12 @@ impl Host {
     /// assert_eq!(host.read(&frame, &mut audio), Ok(2));
     /// assert_eq!(host.frequencies, [7_100_000, 0, 0, 0, 0, 0, 0]);
     /// assert_eq!(audio[..2], [-2, 0]);
+    ///
+    /// // Word 10: the preamps of receivers 1 and 4, a line-in gain of 31.
+    /// frame[3..8].copy_from_slice(&[0x14, 0x09, 0x1F, 0, 0]);
+    /// assert_eq!(host.read(&frame, &mut audio), Ok(10));
+    /// assert_eq!((host.rx_preamps, host.preamp), ([true, false, false, true], false));
+    /// assert_eq!((host.line_in_gain, host.word10_c2_top), (31, 0));
     ///
     /// // Word 0: three receivers, duplex, Tx1.
     /// frame[3..8].copy_from_slice(&[0, 0, 0, 0, 0x14]);

@@ -48,7 +48,9 @@ mod status;
 mod stream;
 
 pub use builder::Builder;
-pub use choices::{Antenna, Attenuator, Boards, Microphone, Relay, Source10, Source122, Speed};
+pub use choices::{
+    Antenna, Attenuator, Boards, Jack, Microphone, Relay, Source10, Source122, Speed,
+};
 pub use host::Host;
 pub use layout::{layout, Row};
 pub use refusal::Refusal;

@@ -14,9 +14,9 @@ pub const ROW_CELLS: usize = 3;
 /// Cells of a status record.
 pub const STATUS_CELLS: usize = 26;
 /// Cells of a host record.
-pub const HOST_CELLS: usize = 51;
+pub const HOST_CELLS: usize = 62;
 /// Cells of a builder: those of its host record, and its turn.
-pub const BUILDER_CELLS: usize = 52;
+pub const BUILDER_CELLS: usize = 63;
 /// Cells of a stream's counts, 64 bits each.
 pub const COUNTS_CELLS: usize = 4;
 /// Bytes that a stream may hold.

@@ -14,7 +14,7 @@ use std::fmt;
 /// ```
 #[derive(Clone, Copy, Debug, PartialEq, Eq, Hash)]
 pub enum Refusal {
-    /// The stream record is unsound, or the turn is above 9.
+    /// The stream record is unsound, or the turn is above 10.
     BadState = 1,
     /// The receiver count is not 1 to 8.
     BadCount = 2,
@@ -44,7 +44,7 @@ impl Refusal {
 impl fmt::Display for Refusal {
     fn fmt(&self, formatter: &mut fmt::Formatter<'_>) -> fmt::Result {
         formatter.write_str(match self {
-            Refusal::BadState => "the stream record is unsound, or the turn is above 9",
+            Refusal::BadState => "the stream record is unsound, or the turn is above 10",
             Refusal::BadCount => "the receiver count is not 1 to 8",
             Refusal::Length => "the frame is not 512 bytes, or the piece is above 4,096",
             Refusal::ShortBuffer => {

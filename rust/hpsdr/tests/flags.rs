@@ -1,11 +1,13 @@
-//! Every flag of both records by itself, both ways: one bit of a word is one flag of a fresh record.
+//! Every flag of both records by itself, both ways: one bit of a word is one flag of a fresh record. So too the choice
+//! and the numbers of word 10.
 
 mod common;
 
 use common::frame;
-use hpsdr::{Builder, Host, Status, Word, AUDIO};
+use hpsdr::{Builder, Host, Jack, Status, Word, AUDIO};
 
 type FlagOf<R> = fn(&mut R) -> &mut bool;
+type NumberOf = fn(&mut Host) -> &mut u8;
 
 /// C0 to C4, and the flag. An input is active where its bit is 0, so its flag goes from true to false.
 const STATUS_FLAGS: [([u8; 5], FlagOf<Status>); 14] = [
@@ -25,7 +27,7 @@ const STATUS_FLAGS: [([u8; 5], FlagOf<Status>); 14] = [
     ([4 << 3, 0, 0, 0, 1], |status| &mut status.adc4),
 ];
 
-const HOST_FLAGS: [([u8; 5], FlagOf<Host>); 32] = [
+const HOST_FLAGS: [([u8; 5], FlagOf<Host>); 38] = [
     ([1, 0, 0, 0, 0], |host| &mut host.mox),
     ([0, 0, 1, 0, 0], |host| &mut host.class_e),
     ([0, 0, 0, 1 << 2, 0], |host| &mut host.preamp),
@@ -58,6 +60,22 @@ const HOST_FLAGS: [([u8; 5], FlagOf<Host>); 32] = [
     ([9 << 1, 0, 0, 0, 1 << 4], |host| &mut host.low_pass_6),
     ([9 << 1, 0, 0, 0, 1 << 5], |host| &mut host.low_pass_12_10),
     ([9 << 1, 0, 0, 0, 1 << 6], |host| &mut host.low_pass_17_15),
+    ([10 << 1, 1, 0, 0, 0], |host| &mut host.rx_preamps[0]),
+    ([10 << 1, 1 << 1, 0, 0, 0], |host| &mut host.rx_preamps[1]),
+    ([10 << 1, 1 << 2, 0, 0, 0], |host| &mut host.rx_preamps[2]),
+    ([10 << 1, 1 << 3, 0, 0, 0], |host| &mut host.rx_preamps[3]),
+    ([10 << 1, 1 << 5, 0, 0, 0], |host| &mut host.mic_bias),
+    ([10 << 1, 1 << 6, 0, 0, 0], |host| {
+        &mut host.mic_ptt_disabled
+    }),
+];
+
+/// The byte of word 10 and the lowest bit of it where a number stands, and the most that its bits hold.
+const WORD_10_NUMBERS: [(usize, u8, u8, NumberOf); 4] = [
+    (2, 0, 31, |host| &mut host.line_in_gain),
+    (2, 5, 7, |host| &mut host.word10_c2_top),
+    (3, 0, 255, |host| &mut host.word10_c3),
+    (4, 0, 255, |host| &mut host.word10_c4),
 ];
 
 #[test]
@@ -75,20 +93,46 @@ fn status_flags() {
     }
 }
 
+/// The word read into a fresh record gives the host record, and the host record gives the word.
+fn host_both_ways(control: [u8; 5], expected: Host) {
+    let mut host = Host::fresh();
+    assert!(host.read(&frame(control), &mut [0; AUDIO]).is_ok());
+    assert_eq!(host, expected, "{control:X?}");
+
+    let (turn, mut written) = (control[0] >> 1, [0xEE; 512]);
+    let mut builder = Builder { host, turn };
+    let got = builder.build(&[0; AUDIO], &mut written);
+    assert_eq!((got, written), (Ok(()), frame(control)));
+}
+
 #[test]
 fn host_flags() {
     for (control, flag) in HOST_FLAGS {
-        let (mut host, mut expected) = (Host::fresh(), Host::fresh());
-        assert!(host.read(&frame(control), &mut [0; AUDIO]).is_ok());
+        let mut expected = Host::fresh();
         *flag(&mut expected) ^= true;
-        assert_eq!(host, expected, "{control:X?}");
+        host_both_ways(control, expected);
+    }
+}
 
-        let (turn, mut written) = (control[0] >> 1, [0xEE; 512]);
-        let mut builder = Builder {
-            host: expected,
-            turn,
+#[test]
+fn jack() {
+    for (code, orion_jack) in (0..).zip([Jack::PttToRing, Jack::PttToTip]) {
+        let expected = Host {
+            orion_jack,
+            ..Host::fresh()
         };
-        let got = builder.build(&[0; AUDIO], &mut written);
-        assert_eq!((got, written), (Ok(()), frame(control)));
+        host_both_ways([10 << 1, code << 4, 0, 0, 0], expected);
+    }
+}
+
+#[test]
+fn numbers_of_word_10() {
+    for (byte, bit, most, number) in WORD_10_NUMBERS {
+        for value in 0..=most {
+            let (mut control, mut expected) = ([10 << 1, 0, 0, 0, 0], Host::fresh());
+            control[byte] = value << bit;
+            *number(&mut expected) = value;
+            host_both_ways(control, expected);
+        }
     }
 }

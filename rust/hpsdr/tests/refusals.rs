@@ -140,6 +140,8 @@ fn refused_host_read(frame: &[u8], audio: usize, refusal: Refusal) {
     let given = Host {
         outputs: 255,
         receivers: 0,
+        line_in_gain: 255,
+        word10_c2_top: 255,
         ..Host::fresh()
     };
     let (mut host, mut audio) = (given, vec![7; audio]);
@@ -160,6 +162,7 @@ fn host_read() {
     refused_host_read(&frame([0x01, 0x0C, 0, 0, 0]), AUDIO, Refusal::Reserved);
     refused_host_read(&frame([0x01, 0, 0, 0, 0x03]), AUDIO, Refusal::Reserved);
     refused_host_read(&frame([0x13, 0, 0, 0, 0x80]), AUDIO, Refusal::Reserved);
+    refused_host_read(&frame([0x15, 0x80, 0, 0, 0]), AUDIO, Refusal::Reserved);
 }
 
 fn refused_build(builder: Builder, audio: usize, frame: usize, refusal: Refusal) {
@@ -172,20 +175,35 @@ fn refused_build(builder: Builder, audio: usize, frame: usize, refusal: Refusal)
 #[test]
 fn build() {
     let fresh = Builder::fresh();
-    for turn in [10, 255] {
+    for turn in [11, 255] {
         refused_build(Builder { turn, ..fresh }, 0, 0, Refusal::BadState);
     }
     refused_build(fresh, AUDIO, 511, Refusal::Length);
     refused_build(fresh, AUDIO, 513, Refusal::Length);
     refused_build(fresh, AUDIO - 1, 512, Refusal::ShortBuffer);
-    for turn in 0..10 {
-        for (outputs, receivers) in [(128, 1), (255, 1), (0, 0), (0, 9), (0, 255)] {
-            let host = Host {
-                outputs,
-                receivers,
-                ..Host::fresh()
-            };
-            refused_build(Builder { host, turn }, AUDIO, 512, Refusal::Range);
+}
+
+type NumberOf = fn(&mut Host) -> &mut u8;
+
+/// Whichever word is due.
+#[test]
+fn build_of_numbers_that_do_not_fit() {
+    let numbers: [(NumberOf, &[u8]); 4] = [
+        (|host| &mut host.outputs, &[128, 255]),
+        (|host| &mut host.receivers, &[0, 9, 255]),
+        (|host| &mut host.line_in_gain, &[32, 255]),
+        (|host| &mut host.word10_c2_top, &[8, 255]),
+    ];
+    for turn in 0..=10 {
+        for (number, values) in numbers {
+            for &value in values {
+                let mut builder = Builder {
+                    turn,
+                    ..Builder::fresh()
+                };
+                *number(&mut builder.host) = value;
+                refused_build(builder, AUDIO, 512, Refusal::Range);
+            }
         }
     }
 }

@@ -7,8 +7,8 @@ mod common;
 
 use common::frame;
 use hpsdr::{
-    Antenna, Attenuator, Boards, Builder, Host, Microphone, Relay, Source10, Source122, Speed,
-    Status, Word, AUDIO,
+    Antenna, Attenuator, Boards, Builder, Host, Jack, Microphone, Relay, Source10, Source122,
+    Speed, Status, Word, AUDIO,
 };
 
 const STATUS: Status = Status {
@@ -103,9 +103,17 @@ const HOST: Host = Host {
     low_pass_6: false,
     low_pass_12_10: true,
     low_pass_17_15: true,
+    rx_preamps: [true, false, true, true],
+    orion_jack: Jack::PttToTip,
+    mic_bias: false,
+    mic_ptt_disabled: true,
+    line_in_gain: 19,
+    word10_c2_top: 6,
+    word10_c3: 0xB7,
+    word10_c4: 0x8E,
 };
 
-const HOST_WORDS: [[u8; 5]; 10] = [
+const HOST_WORDS: [[u8; 5]; 11] = [
     [
         0x01,
         0b1_10_0_10_11,
@@ -122,6 +130,7 @@ const HOST_WORDS: [[u8; 5]; 10] = [
     [0x0F, 0x61, 0x62, 0x63, 0x64],
     [0x11, 0xFF, 0xFE, 0xFD, 0xFC],
     [0x13, 0xA5, 0b0100_1101, 0b1001_0110, 0b0110_0101],
+    [0x15, 0b0_1_0_1_1101, 0b110_10011, 0xB7, 0x8E],
 ];
 
 #[test]
@@ -173,7 +182,7 @@ fn host_words_built() {
         assert_eq!(written, frame(control));
         let expected = Builder {
             host: HOST,
-            turn: turn % 10,
+            turn: turn % 11,
         };
         assert_eq!(builder, expected);
     }
@@ -186,6 +195,28 @@ fn host_words_read() {
         assert_eq!(host.read(&frame(control), &mut [0; AUDIO]), Ok(address));
     }
     assert_eq!(host, HOST);
+}
+
+#[test]
+fn unlisted_words_of_the_host_set_mox_only() {
+    for address in 11..128 {
+        let mut host = HOST;
+        let control = [address << 1, 0xFF, 0xFF, 0xFF, 0xFF];
+        assert_eq!(host.read(&frame(control), &mut [0; AUDIO]), Ok(address));
+        let expected = Host { mox: false, ..HOST };
+        assert_eq!(host, expected);
+    }
+}
+
+#[test]
+fn words_0_and_10_keep_their_preamps_apart() {
+    let word_0 = ([0; 5], (false, HOST.rx_preamps));
+    let word_10 = ([10 << 1, 0, 0, 0, 0], (HOST.preamp, [false; 4]));
+    for (control, expected) in [word_0, word_10] {
+        let mut host = HOST;
+        assert!(host.read(&frame(control), &mut [0; AUDIO]).is_ok());
+        assert_eq!((host.preamp, host.rx_preamps), expected);
+    }
 }
 
 /// Word 0 with every two-bit code at `code`, and every one-bit choice at its low bit.
@@ -250,6 +281,7 @@ fn first_choices() {
     assert_eq!(host.attenuator, Attenuator::Db0);
     assert_eq!(host.antenna, Antenna::None);
     assert_eq!(host.relay, Relay::Tx1);
+    assert_eq!(host.orion_jack, Jack::PttToRing);
 }
 
 #[test]

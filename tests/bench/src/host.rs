@@ -12,14 +12,16 @@ type Frame = [u8; 512];
 type Audio = [i16; AUDIO];
 
 const AUDIO: usize = 252;
-/// Six turns of the ten words.
-const FRAMES: usize = 60;
+/// Six turns of the eleven words.
+const FRAMES: usize = 66;
 
 /// A builder of which every word differs from the fresh one's.
 fn filled_builder() -> Builder {
     let mut cells = BUILDER_MOST;
     cells[cells::OUTPUTS] = 127;
     cells[cells::RECEIVERS] = 8;
+    cells[cells::LINE_IN_GAIN] = 31;
+    cells[cells::WORD10_C2_TOP] = 7;
     cells[cells::TURN] = 0;
     cells::builder(&cells).expect("the cells hold a record")
 }

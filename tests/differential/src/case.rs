@@ -26,9 +26,18 @@ impl Draw {
 
 pub type Twist<C> = fn(&mut C, &mut Draw);
 
+/// Cases of a call in which one thing alone is wrong. They are counted in a line of their own too,
+/// since the call's line does not tell the refusals of one number apart.
+pub struct Part<C> {
+    /// The line's name, and the answers that should come in it.
+    pub line: Call,
+    pub holds: fn(&C) -> bool,
+}
+
 pub trait Case: Sized + 'static {
     const CALL: Call;
     const TWISTS: &'static [Twist<Self>];
+    const PARTS: &'static [Part<Self>] = &[];
 
     fn valid(draw: &mut Draw) -> Self;
 

@@ -40,13 +40,18 @@ pub const BUILDER_MOST: [u32; HOST + 1] = [
     FLAG, FLAG, FLAG, FLAG, FLAG, FLAG, FLAG, FLAG, // mic_boost to vna
     FLAG, FLAG, FLAG, FLAG, FLAG, FLAG, FLAG, FLAG, // high_pass_13 to tr_disabled
     FLAG, FLAG, FLAG, FLAG, FLAG, FLAG, FLAG,       // low_pass_30_20 to low_pass_17_15
-    9,                                              // turn
+    FLAG, FLAG, FLAG, FLAG,                         // rx_preamps
+    1, FLAG, FLAG,                                  // orion_jack, mic_bias, mic_ptt_disabled
+    BYTE, BYTE, BYTE, BYTE,                         // line_in_gain, word10_c2_top, word10_c3, word10_c4
+    BYTE,                                           // turn, of which a build takes 0 to 10
 ];
 /// Those of a host record.
 pub const HOST_MOST: &[u32] = BUILDER_MOST.split_at(HOST).0;
-pub const HOST: usize = 51;
+pub const HOST: usize = 62;
 pub const OUTPUTS: usize = 7;
 pub const RECEIVERS: usize = 16;
+pub const LINE_IN_GAIN: usize = 58;
+pub const WORD10_C2_TOP: usize = 59;
 pub const TURN: usize = HOST;
 
 /// The cells of a record in their order, each known to fit.
@@ -107,6 +112,14 @@ impl Taken<'_> {
             controls: self.flags(),
             high_pass: self.flags(),
             low_pass: self.flags(),
+            rx_preamps: self.flags(),
+            orion_jack: self.byte(),
+            mic_bias: self.flag(),
+            mic_ptt_disabled: self.flag(),
+            line_in_gain: self.byte(),
+            word10_c2_top: self.byte(),
+            word10_c3: self.byte(),
+            word10_c4: self.byte(),
         }
     }
 }
@@ -219,7 +232,12 @@ pub fn host_into(host: &Host, cells: &mut [u32]) {
         .cell(host.drive)
         .cells(&host.controls)
         .cells(&host.high_pass)
-        .cells(&host.low_pass);
+        .cells(&host.low_pass)
+        .cells(&host.rx_preamps)
+        .cell(host.orion_jack)
+        .cells(&[host.mic_bias, host.mic_ptt_disabled])
+        .cells(&[host.line_in_gain, host.word10_c2_top])
+        .cells(&[host.word10_c3, host.word10_c4]);
 }
 
 pub fn builder_into(builder: &Builder, cells: &mut [u32]) {

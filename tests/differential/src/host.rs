@@ -1,7 +1,9 @@
 //! Frames from the host, read and built.
 
-use crate::case::{outcome, Call, Case, Draw, Outcome, Twist};
-use crate::cells::{BUILDER_MOST, HOST, HOST_MOST, OUTPUTS, RECEIVERS, TURN};
+use crate::case::{outcome, Call, Case, Draw, Outcome, Part, Twist};
+use crate::cells::{
+    self, BUILDER_MOST, HOST, HOST_MOST, LINE_IN_GAIN, OUTPUTS, RECEIVERS, TURN, WORD10_C2_TOP,
+};
 use crate::lent::Guards;
 use crate::model;
 use crate::twist::{
@@ -9,13 +11,16 @@ use crate::twist::{
     valid_numbers, FRAME, SYNC,
 };
 use hpsdr::raw;
+use std::ops::RangeInclusive;
 
 const AUDIO: usize = 252;
+/// The words that are listed: 0 to 10.
+const WORDS: usize = 11;
 
 /// Where C0 stands in a frame.
 const CONTROL: usize = 3;
 
-const TURNS: [u32; 19] = [
+const TURNS: [u32; 20] = [
     0,
     1,
     2,
@@ -33,13 +38,14 @@ const TURNS: [u32; 19] = [
     256,
     257,
     265,
+    266,
     1 << 31,
     u32::MAX,
 ];
 
-/// Sets each unassigned code and bit of a word: in words 0 and 9 it is refused, in others it is
-/// part of a number.
-const RESERVE: [fn(&mut [u8]); 4] = [
+/// Sets each unassigned code and bit of words 0, 9 and 10. In its own word it is refused, in others it
+/// is assigned or part of a number.
+const RESERVE: [fn(&mut [u8]); 5] = [
     |control| control[1] |= 0b1100,
     |control| control[4] |= 0b11,
     |control| {
@@ -47,9 +53,18 @@ const RESERVE: [fn(&mut [u8]); 4] = [
         control[4] |= 0b11
     },
     |control| control[4] |= 0x80,
+    |control| control[1] |= 0x80,
 ];
 
-/// Clears what is unassigned in the word, if it is 0 or 9, so that it reads.
+/// The cells of a builder that hold more than a frame does, and what a frame holds of them.
+const RANGES: [(usize, RangeInclusive<u32>); 4] = [
+    (OUTPUTS, 0..=127),
+    (RECEIVERS, 1..=8),
+    (LINE_IN_GAIN, 0..=31),
+    (WORD10_C2_TOP, 0..=7),
+];
+
+/// Clears what is unassigned in the word, if it is 0, 9 or 10, so that it reads.
 fn clear_reserved(control: &mut [u8]) {
     match control[0] >> 1 {
         0 => {
@@ -58,6 +73,7 @@ fn clear_reserved(control: &mut [u8]) {
             control[4] = lowered(control[4], 0);
         }
         9 => control[4] &= 0x7f,
+        10 => control[1] &= 0x7f,
         _ => {}
     }
 }
@@ -77,11 +93,19 @@ pub struct Read {
 }
 
 impl Read {
-    /// Each of the unassigned codes in each of words 0 to 10, most often where it is refused.
+    /// Each of the unassigned codes in each of words 0 to 11, most often where it is refused.
     fn set_reserved(&mut self, draw: &mut Draw) {
-        let address = draw.random.pick(&[0, 9, draw.turn % 11]);
+        let address = draw.random.pick(&[0, 9, 10, draw.turn % (WORDS + 1)]);
         self.frame = frame(address, draw);
         RESERVE[draw.turn % RESERVE.len()](&mut self.frame[CONTROL..]);
+    }
+
+    /// Whether word 10's C1 bit 7 is set, and nothing else is wrong.
+    fn only_reserves_in_word_10(&self) -> bool {
+        matches!(self.frame[..], [0x7f, 0x7f, 0x7f, 20 | 21, 0x80..=0xff, ..])
+            && self.frame.len() == FRAME
+            && self.audio.len() >= AUDIO
+            && cells::host(&self.host).is_some()
     }
 }
 
@@ -99,10 +123,18 @@ impl Case for Read {
         |case, draw| cell_value(&mut case.host, HOST_MOST, draw),
         |case, draw| cell_count(&mut case.host, HOST, draw),
     ];
+    const PARTS: &'static [Part<Self>] = &[Part {
+        line: Call {
+            name: "- word 10's C1 bit 7",
+            answers: &[8],
+        },
+        holds: Read::only_reserves_in_word_10,
+    }];
 
     fn valid(draw: &mut Draw) -> Self {
         let any = draw.random.below(128);
-        let address = draw.random.pick(&[draw.turn % 128, draw.turn % 10, any]);
+        let low = draw.turn % (WORDS + 1);
+        let address = draw.random.pick(&[draw.turn % 128, low, any]);
         Read {
             frame: frame(address, draw),
             audio: valid_numbers(AUDIO, draw),
@@ -142,6 +174,16 @@ impl Build {
             *cell = value;
         }
     }
+
+    /// Whether the number of this cell is out of range, and nothing else is wrong.
+    fn only_strays_in(&self, cell: usize) -> bool {
+        cells::builder(&self.builder).is_some_and(|record| usize::from(record.turn) < WORDS)
+            && self.audio.len() >= AUDIO
+            && self.frame.len() == FRAME
+            && RANGES
+                .iter()
+                .all(|(at, range)| range.contains(&self.builder[*at]) == (*at != cell))
+    }
 }
 
 impl Case for Build {
@@ -158,18 +200,38 @@ impl Case for Build {
                 draw.in_turn(&[0, 1, 8, 9, 10, 16, 255, 256, 257]),
             )
         },
+        |case, draw| case.set(LINE_IN_GAIN, draw.in_turn(&[31, 32, 33, 255, 256, 0])),
+        |case, draw| case.set(WORD10_C2_TOP, draw.in_turn(&[7, 8, 9, 255, 256, 0])),
         |case, draw| frame_length(&mut case.frame, draw),
         |case, draw| slice_length(&mut case.audio, AUDIO, draw),
         |case, draw| cell_value(&mut case.builder, &BUILDER_MOST, draw),
         |case, draw| cell_count(&mut case.builder, BUILDER_MOST.len(), draw),
+    ];
+    const PARTS: &'static [Part<Self>] = &[
+        Part {
+            line: Call {
+                name: "- gain above 31",
+                answers: &[9],
+            },
+            holds: |case| case.only_strays_in(LINE_IN_GAIN),
+        },
+        Part {
+            line: Call {
+                name: "- top bits above 7",
+                answers: &[9],
+            },
+            holds: |case| case.only_strays_in(WORD10_C2_TOP),
+        },
     ];
 
     fn valid(draw: &mut Draw) -> Self {
         let mut builder = valid_cells(&BUILDER_MOST, draw);
         builder[OUTPUTS] &= 127;
         builder[RECEIVERS] = 1 + builder[RECEIVERS] % 8;
-        let any = draw.random.below(10);
-        builder[TURN] = draw.random.pick(&[draw.turn % 10, any]) as u32;
+        builder[LINE_IN_GAIN] &= 31;
+        builder[WORD10_C2_TOP] &= 7;
+        let any = draw.random.below(WORDS);
+        builder[TURN] = draw.random.pick(&[draw.turn % WORDS, any]) as u32;
         Build {
             builder,
             audio: valid_numbers(AUDIO, draw),

@@ -14,7 +14,7 @@ mod text;
 mod twist;
 mod whole;
 
-use case::{made, Call, Case, Draw};
+use case::{made, Call, Case, Draw, Part};
 use differential::{cells, random};
 use lent::Guards;
 use options::{Options, USAGE};
@@ -34,10 +34,19 @@ struct Run<'a> {
     tally: &'a mut Tally,
 }
 
+/// The call's line of the table, and those of the parts that are chosen.
+fn lines<C: Case>(chosen: impl Fn(&Part<C>) -> bool) -> Vec<Call> {
+    let parts = C::PARTS.iter().filter(|part| chosen(part));
+    let lines = parts.map(|part| part.line);
+    std::iter::once(C::CALL).chain(lines).collect()
+}
+
 fn single<C: Case>(run: Run) -> Result<(), Differs> {
-    let outcome = made::<C>(run.number, run.random).compare(&run.guards);
+    let case = made::<C>(run.number, run.random);
+    let lines = lines::<C>(|part| (part.holds)(&case));
+    let outcome = case.compare(&run.guards);
     let returned = outcome.map_err(|difference| (C::CALL.name, difference))?;
-    run.tally.count(&C::CALL, returned);
+    run.tally.count(&lines, returned);
     Ok(())
 }
 
@@ -49,7 +58,7 @@ fn whole(run: Run) -> Result<(), Differs> {
     let ran = whole::run(&mut draw, &run.guards);
     let ran = ran.map_err(|difference| (stream::Feed::CALL.name, difference))?;
     for returned in ran.returned {
-        run.tally.count(&stream::Feed::CALL, returned);
+        run.tally.count(&[stream::Feed::CALL], returned);
     }
     run.tally.wholes += 1;
     run.tally.demanded += u64::from(ran.demanded);
@@ -58,7 +67,7 @@ fn whole(run: Run) -> Result<(), Differs> {
 
 struct Kind {
     run: fn(Run) -> Result<(), Differs>,
-    call: Call,
+    lines: fn() -> Vec<Call>,
     /// How many cases of this kind stand in one round.
     share: usize,
 }
@@ -66,7 +75,7 @@ struct Kind {
 const fn kind<C: Case>(share: usize) -> Kind {
     Kind {
         run: single::<C>,
-        call: C::CALL,
+        lines: || lines::<C>(|_| true),
         share,
     }
 }
@@ -123,7 +132,7 @@ fn main() -> ExitCode {
         eprintln!("{USAGE}");
         return ExitCode::from(2);
     };
-    let mut tally = Tally::of(KINDS.iter().map(|kind| kind.call));
+    let mut tally = Tally::of(KINDS.iter().flat_map(|kind| (kind.lines)()));
     let mut cases = options.case.map_or(0..usize::MAX, |case| case..case + 1);
     while let Some(case) = cases.next().filter(|_| tally.calls < options.calls) {
         if let Err((call, difference)) = run(case, &options, &mut tally) {

@@ -37,9 +37,12 @@ impl Tally {
             .find(|line| line.call.name == call.name)
     }
 
-    pub fn count(&mut self, call: &Call, returned: u32) {
-        let line = self.line(call).expect("every call has a line");
-        line.came[returned as usize & 0xff] += 1;
+    /// Counts one call, in its line and in those of its parts.
+    pub fn count(&mut self, lines: &[Call], returned: u32) {
+        for call in lines {
+            let line = self.line(call).expect("every call and part has a line");
+            line.came[returned as usize & 0xff] += 1;
+        }
         self.calls += 1;
     }
 

@@ -1,4 +1,5 @@
-//! Host frames (EP2), the host record and the host's turn of words.
+//! Host frames (EP2), the host record and the host's turn of words, with the
+//! word 10 that request T-07 adds.
 
 use crate::bits::{bit, byte, code, flags};
 use crate::frame::{begin, open, whole, whole_mut, Control};
@@ -6,10 +7,12 @@ use crate::refusal::{BAD_STATE, RANGE, RESERVED, SHORT_BUFFER};
 
 /// 63 slots of L, R, I and Q.
 const AUDIO: usize = 252;
-const LAST_TURN: u8 = 9;
+const LAST_TURN: u8 = 10;
 /// The code that neither the 10 MHz source nor the transmit relay assigns.
 const UNASSIGNED: u8 = 3;
 const OUTPUTS_MOST: u8 = 127;
+const LINE_IN_GAIN_MOST: u8 = 31;
+const WORD10_C2_TOP_MOST: u8 = 7;
 
 /// What the host tells the radio. Named choices are held as their codes.
 #[derive(Clone, Copy, Debug, PartialEq, Eq)]
@@ -32,7 +35,7 @@ pub struct Host {
     pub outputs: u8,
     /// Alex attenuator 0, 10, 20, 30 dB: 0 to 3.
     pub attenuator: u8,
-    /// Preamp.
+    /// Preamp of word 0, apart from the receivers' in word 10.
     pub preamp: bool,
     /// Dither.
     pub dither: bool,
@@ -66,6 +69,23 @@ pub struct Host {
     pub high_pass: [bool; 8],
     /// Low-pass 30/20, 60/40, 80, 160, 6, 12/10, 17/15 m.
     pub low_pass: [bool; 7],
+    /// Preamps of receivers 1 to 4.
+    pub rx_preamps: [bool; 4],
+    /// Orion tip and ring: 0 for micPTT to ring and microphone to tip, 1 for
+    /// the reverse.
+    pub orion_jack: u8,
+    /// Mic bias.
+    pub mic_bias: bool,
+    /// Microphone PTT disabled.
+    pub mic_ptt_disabled: bool,
+    /// Line-in gain: 0 to 31.
+    pub line_in_gain: u8,
+    /// Word 10's C2 bits 7-5 as a number: 0 to 7.
+    pub word10_c2_top: u8,
+    /// Word 10's C3 as a number.
+    pub word10_c3: u8,
+    /// Word 10's C4 as a number.
+    pub word10_c4: u8,
 }
 
 /// A host record and the word due next.
@@ -73,7 +93,7 @@ pub struct Host {
 pub struct Builder {
     /// The record that is sent.
     pub host: Host,
-    /// The word due next: 0 to 9.
+    /// The word due next: 0 to 10.
     pub turn: u8,
 }
 
@@ -106,6 +126,14 @@ impl Host {
             controls: [false; 8],
             high_pass: [false; 8],
             low_pass: [false; 7],
+            rx_preamps: [false; 4],
+            orion_jack: 0,
+            mic_bias: false,
+            mic_ptt_disabled: false,
+            line_in_gain: 0,
+            word10_c2_top: 0,
+            word10_c3: 0,
+            word10_c4: 0,
         }
     }
 
@@ -120,6 +148,7 @@ impl Host {
             1 => self.transmitter = frequency,
             2..=8 => self.frequencies[usize::from(address - 2)] = frequency,
             9 => self.take_filters([c1, c2, c3, c4]),
+            10 => self.take_inputs([c1, c2, c3, c4]),
             _ => {}
         }
         address
@@ -153,13 +182,25 @@ impl Host {
         self.low_pass = flags(c4);
     }
 
-    /// C0 to C4 of the word due at `turn`, which is at most 9.
+    fn take_inputs(&mut self, [c1, c2, c3, c4]: [u8; 4]) {
+        self.rx_preamps = flags(c1);
+        self.orion_jack = c1 >> 4 & 1;
+        self.mic_bias = bit(c1, 5);
+        self.mic_ptt_disabled = bit(c1, 6);
+        self.line_in_gain = c2 & 0b1_1111;
+        self.word10_c2_top = c2 >> 5;
+        self.word10_c3 = c3;
+        self.word10_c4 = c4;
+    }
+
+    /// C0 to C4 of the word due at `turn`, which is at most 10.
     fn control(&self, turn: u8) -> Control {
         let [c1, c2, c3, c4] = match turn {
             0 => self.settings(),
             1 => self.transmitter.to_be_bytes(),
             2..=8 => self.frequencies[usize::from(turn - 2)].to_be_bytes(),
-            _ => self.filters(),
+            9 => self.filters(),
+            _ => self.inputs(),
         };
         [turn << 1 | u8::from(self.mox), c1, c2, c3, c4]
     }
@@ -187,12 +228,20 @@ impl Host {
         [self.drive, controls, high_pass, byte(self.low_pass)]
     }
 
+    fn inputs(&self) -> [u8; 4] {
+        let c1 = byte(self.rx_preamps)
+            | self.orion_jack << 4
+            | byte([self.mic_bias, self.mic_ptt_disabled]) << 5;
+        let c2 = self.line_in_gain | self.word10_c2_top << 5;
+        [c1, c2, self.word10_c3, self.word10_c4]
+    }
+
     fn has_unassigned_code(&self) -> bool {
         self.source10 == UNASSIGNED || self.relay == UNASSIGNED
     }
 
     fn fits(&self) -> bool {
-        let one_bit_codes = [self.source122, self.microphone];
+        let one_bit_codes = [self.source122, self.microphone, self.orion_jack];
         let two_bit_codes = [
             self.speed,
             self.source10,
@@ -203,6 +252,8 @@ impl Host {
         ];
         self.outputs <= OUTPUTS_MOST
             && (1..=8).contains(&self.receivers)
+            && self.line_in_gain <= LINE_IN_GAIN_MOST
+            && self.word10_c2_top <= WORD10_C2_TOP_MOST
             && one_bit_codes.iter().all(|&code| code <= 1)
             && two_bit_codes.iter().all(|&code| code <= 3)
     }
@@ -213,6 +264,7 @@ fn sets_reserved([c0, c1, _, _, c4]: Control) -> bool {
     match c0 >> 1 {
         0 => code(c1, 2) == UNASSIGNED || code(c4, 0) == UNASSIGNED,
         9 => bit(c4, 7),
+        10 => bit(c1, 7),
         _ => false,
     }
 }
@@ -237,10 +289,11 @@ pub fn host_read(frame: &[u8], audio: &mut [i16], host: &mut Host) -> Result<u8,
 
 /// Writes the host frame whose word is the turn's, and moves the turn on.
 ///
-/// Refused: 1 for a turn above 9, 3 for a frame not of 512 bytes, 4 for an
+/// Refused: 1 for a turn above 10, 3 for a frame not of 512 bytes, 4 for an
 /// audio slice under 252, 8 for an unassigned code in the record, 9 for
-/// collector outputs above 127, receivers not 1 to 8, or a code that its bits
-/// cannot hold. The whole record is tested, whichever word is due.
+/// collector outputs above 127, receivers not 1 to 8, a line-in gain above 31,
+/// top bits of word 10's C2 above 7, or a code that its bits cannot hold. The
+/// whole record is tested, whichever word is due.
 pub fn build(builder: &mut Builder, audio: &[i16], frame: &mut [u8]) -> Result<(), u8> {
     let Builder { host, turn } = builder;
     if *turn > LAST_TURN {

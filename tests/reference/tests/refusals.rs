@@ -144,11 +144,25 @@ fn run_build(call: &mut HostCall) -> Option<u8> {
     build(&mut call.builder, &call.audio, &mut call.frame).err()
 }
 
+type ReservedCase = ([u8; 5], [Fault<HostCall>; 2]);
+
 #[test]
 fn host_read_refuses_in_order() {
-    let word_0: [Fault<HostCall>; 8] = [
-        (8, |c| c.frame[4] = 0x0C),
-        (8, |c| c.frame[7] = 0x03),
+    let words: [ReservedCase; 3] = [
+        (
+            [0x01, 0xF3, 0xFF, 0xFF, 0xFC],
+            [(8, |c| c.frame[4] = 0x0C), (8, |c| c.frame[7] = 0x03)],
+        ),
+        (
+            [0x13, 0xFF, 0xFF, 0xFF, 0x7F],
+            [(8, |c| c.frame[7] |= 0x80), (8, |c| c.frame[7] = 0x80)],
+        ),
+        (
+            [0x15, 0x7F, 0xFF, 0xFF, 0xFF],
+            [(8, |c| c.frame[4] |= 0x80), (8, |c| c.frame[4] = 0x80)],
+        ),
+    ];
+    let others: [Fault<HostCall>; 6] = [
         (6, |c| c.frame[0] = 0x7E),
         (6, |c| c.frame[1] = 0xFF),
         (6, |c| c.frame[2] = 0),
@@ -156,18 +170,15 @@ fn host_read_refuses_in_order() {
         (3, |c| c.frame.truncate(511)),
         (3, |c| c.frame.resize(513, 0)),
     ];
-    let good = good_host_call([0x01, 0xF3, 0xFF, 0xFF, 0xFC], 0);
-    check_every_set(&good, run_host_read, &word_0);
-    let mut word_9 = word_0;
-    word_9[0] = (8, |c| c.frame[7] |= 0x80);
-    word_9[1] = (8, |c| c.frame[7] = 0x80);
-    let good = good_host_call([0x13, 0xFF, 0xFF, 0xFF, 0x7F], 0);
-    check_every_set(&good, run_host_read, &word_9);
+    for (control, reserved) in words {
+        let faults = [&reserved[..], &others].concat();
+        check_every_set(&good_host_call(control, 0), run_host_read, &faults);
+    }
 }
 
 #[test]
 fn unassigned_codes_are_refused_in_their_own_word_only() {
-    for address in (1..=127).filter(|&address| address != 9) {
+    for address in (1..=127).filter(|address| ![9, 10].contains(address)) {
         let control = [address << 1, 0xFF, 0xFF, 0xFF, 0xFF];
         assert_eq!(run_host_read(&mut good_host_call(control, 0)), None);
     }
@@ -181,38 +192,74 @@ fn unassigned_codes_are_refused_in_their_own_word_only() {
 }
 
 #[test]
+fn a_bit_alone_is_refused_only_in_word_9_c4_and_word_10_c1() {
+    let reserved = [[0x12, 0, 0, 0, 0x80], [0x14, 0x80, 0, 0, 0]];
+    for address in 0..=127 {
+        for bit in 0..32 {
+            let [c1, c2, c3, c4] = (1_u32 << bit).to_be_bytes();
+            let control = [address << 1, c1, c2, c3, c4];
+            let refusal = reserved.contains(&control).then_some(8);
+            let answer = run_host_read(&mut good_host_call(control, 0));
+            assert_eq!(answer, refusal, "{control:02X?}");
+        }
+    }
+}
+
+#[test]
 fn build_refuses_in_order() {
-    let faults: [Fault<HostCall>; 8] = [
+    let faults: [Fault<HostCall>; 10] = [
         (9, |c| c.builder.host.outputs = 128),
         (9, |c| c.builder.host.receivers = 0),
         (9, |c| c.builder.host.receivers = 9),
+        (9, |c| c.builder.host.line_in_gain = 32),
+        (9, |c| c.builder.host.word10_c2_top = 8),
         (4, |c| c.audio.truncate(251)),
         (3, |c| c.frame.truncate(511)),
         (3, |c| c.frame.resize(513, 0)),
-        (1, |c| c.builder.turn = 10),
+        (1, |c| c.builder.turn = 11),
         (1, |c| c.builder.turn = 255),
     ];
-    for turn in 0..=9 {
+    for turn in 0..=10 {
         check_every_set(&good_host_call([0; 5], turn), run_build, &faults);
+    }
+}
+
+#[test]
+fn build_takes_gains_to_31_and_top_bits_to_7_at_every_turn() {
+    let cases = [
+        (31, 7, None),
+        (32, 7, Some(9)),
+        (31, 8, Some(9)),
+        (255, 0, Some(9)),
+        (0, 255, Some(9)),
+    ];
+    for turn in 0..=10 {
+        for (gain, top, refusal) in cases {
+            let mut call = good_host_call([0; 5], turn);
+            let host = &mut call.builder.host;
+            (host.line_in_gain, host.word10_c2_top) = (gain, top);
+            assert_eq!(run_build(&mut call), refusal, "{gain} {top} at {turn}");
+        }
     }
 }
 
 /// Records that the scope's named choices cannot hold, but codes can.
 #[test]
 fn build_refuses_codes_that_name_no_choice() {
-    let faults: [Fault<HostCall>; 10] = [
+    let faults: [Fault<HostCall>; 11] = [
         (9, |c| c.builder.host.speed = 4),
         (9, |c| c.builder.host.source122 = 2),
         (9, |c| c.builder.host.boards = 4),
         (9, |c| c.builder.host.microphone = 2),
         (9, |c| c.builder.host.attenuator = 4),
         (9, |c| c.builder.host.antenna = 4),
+        (9, |c| c.builder.host.orion_jack = 2),
         (8, |c| c.builder.host.source10 = 3),
         (8, |c| c.builder.host.relay = 3),
         (4, |c| c.audio.truncate(251)),
-        (1, |c| c.builder.turn = 10),
+        (1, |c| c.builder.turn = 11),
     ];
-    for turn in [0, 9] {
+    for turn in [0, 9, 10] {
         check_every_set(&good_host_call([0; 5], turn), run_build, &faults);
     }
 }

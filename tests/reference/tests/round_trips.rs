@@ -102,55 +102,34 @@ fn radio_slots_stand_in_receiver_order() {
     }
 }
 
-/// A record in which every field differs from a fresh one's.
-fn busy_host() -> Host {
-    Host {
-        mox: true,
-        speed: 2,
-        source10: 1,
-        source122: 1,
-        boards: 3,
-        microphone: 1,
-        class_e: true,
-        outputs: 85,
-        attenuator: 3,
-        preamp: true,
-        dither: true,
-        random: true,
-        antenna: 1,
-        rx_out: true,
-        relay: 2,
-        duplex: true,
-        receivers: 7,
-        timestamp: true,
-        common: true,
-        transmitter: 14_200_000,
-        frequencies: [1, 22, 333, 4_444, 55_555, u32::MAX, 7_777_777],
-        drive: 200,
-        controls: [true, false, true, true, false, false, true, false],
-        high_pass: [false, true, true, false, true, false, false, true],
-        low_pass: [true, true, false, true, false, false, true],
+/// Sends `host` in eleven builds from the turn `first` to a reader that holds
+/// `before`; gives what the reader holds then.
+fn sent_in_eleven_builds(host: Host, first: u8, before: Host, noise: &mut Noise) -> Host {
+    let mut builder = Builder { host, turn: first };
+    let mut read = before;
+    for step in 0..11 {
+        let audio: Vec<i16> = (0..255).map(|_| noise.word() as i16).collect();
+        let (mut frame, mut heard) = ([0xEE; 512], [99; 255]);
+        build(&mut builder, &audio, &mut frame).unwrap();
+        let word = (first + step) % 11;
+        assert_eq!(host_read(&frame, &mut heard, &mut read), Ok(word));
+        assert_eq!((builder.host, builder.turn), (host, (word + 1) % 11));
+        assert_eq!(heard[..252], audio[..252]);
+        assert_eq!(heard[252..], [99; 3]);
     }
+    assert_eq!(builder.turn, first);
+    read
 }
 
 #[test]
-fn a_host_record_is_wholly_sent_in_ten_builds_from_any_turn() {
+fn a_host_record_is_wholly_sent_in_eleven_builds_from_any_turn() {
     let mut noise = Noise(3);
-    for first in 0..=9 {
-        let host = busy_host();
-        let mut builder = Builder { host, turn: first };
-        let mut read = Host::fresh();
-        for step in 0..10 {
-            let audio: Vec<i16> = (0..255).map(|_| noise.word() as i16).collect();
-            let (mut frame, mut heard) = ([0xEE; 512], [99; 255]);
-            build(&mut builder, &audio, &mut frame).unwrap();
-            let word = (first + step) % 10;
-            assert_eq!(host_read(&frame, &mut heard, &mut read), Ok(word));
-            assert_eq!((builder.host, builder.turn), (host, (word + 1) % 10));
-            assert_eq!(heard[..252], audio[..252]);
-            assert_eq!(heard[252..], [99; 3]);
+    let (fresh, busy, full) = (Host::fresh(), busy_host(), full_host());
+    for (host, before) in [(busy, fresh), (busy, full), (full, fresh), (fresh, full)] {
+        for first in 0..=10 {
+            let read = sent_in_eleven_builds(host, first, before, &mut noise);
+            assert_eq!(read, host, "from turn {first}");
         }
-        assert_eq!((read, builder.turn), (host, first));
     }
 }
 
@@ -158,7 +137,7 @@ fn a_host_record_is_wholly_sent_in_ten_builds_from_any_turn() {
 fn the_busy_record_word_by_word() {
     let host = busy_host();
     let mut builder = Builder { host, turn: 0 };
-    let mut sent = [[0; 5]; 10];
+    let mut sent = [[0; 5]; 11];
     for control in &mut sent {
         let mut frame = [0; 512];
         build(&mut builder, &[0; 252], &mut frame).unwrap();
@@ -170,18 +149,20 @@ fn the_busy_record_word_by_word() {
     assert_eq!(sent[3], [0x07, 0x00, 0x00, 0x00, 0x16]);
     assert_eq!(sent[7], [0x0F, 0xFF, 0xFF, 0xFF, 0xFF]);
     assert_eq!(sent[9], [0x13, 0xC8, 0x4D, 0x96, 0x4B]);
+    assert_eq!(sent[10], [0x15, 0x7D, 0xB3, 0x5A, 0xC3]);
 }
 
 #[test]
 fn host_frames_read_and_written() {
     let mut noise = Noise(4);
-    for turn in 0..=9 {
+    for turn in 0..=10 {
         let mut frame = noise.bytes(512);
         frame[..3].copy_from_slice(&SYNC);
         frame[3] = turn << 1 | frame[3] & 1;
         match turn {
             0 => (frame[4], frame[7]) = (frame[4] & 0xF7, frame[7] & 0xFD),
             9 => frame[7] &= 0x7F,
+            10 => frame[4] &= 0x7F,
             _ => {}
         }
         let (mut audio, mut host) = ([0; 252], busy_host());

@@ -101,6 +101,13 @@ fn built(host: Host, turn: u8) -> [u8; 512] {
     frame
 }
 
+/// C0 to C4 make `expected` of a fresh record, and it is built as them again.
+fn check_host_word(control: [u8; 5], expected: Host) {
+    let word = control[0] >> 1;
+    assert_eq!(host_word(control), (expected, word), "{control:02X?}");
+    assert_eq!(built(expected, word), frame(control));
+}
+
 type HostCase = ([u8; 5], fn(&mut Host));
 
 /// C0 to C4 of word 0, and what they change in a fresh host record.
@@ -136,9 +143,7 @@ const SETTINGS_CASES: [HostCase; 26] = [
 #[test]
 fn host_settings_set_their_fields() {
     for (control, change) in SETTINGS_CASES {
-        let (host, _) = host_word(control);
-        assert_eq!(host, host_with(change), "{control:02X?}");
-        assert_eq!(built(host, 0), frame(control));
+        check_host_word(control, host_with(change));
     }
 }
 
@@ -147,61 +152,130 @@ fn host_frequencies_go_to_their_own_receiver() {
     let hertz = [0x12, 0x34, 0x56, 0x78];
     for word in 1..=8_u8 {
         let [a, b, c, d] = hertz;
-        let (host, _) = host_word([word << 1, a, b, c, d]);
         let mut expected = Host::fresh();
         match word {
             1 => expected.transmitter = 305_419_896,
             _ => expected.frequencies[usize::from(word) - 2] = 305_419_896,
         }
-        assert_eq!(host, expected);
-        assert_eq!(built(host, word), frame([word << 1, a, b, c, d]));
+        check_host_word([word << 1, a, b, c, d], expected);
     }
 }
 
 #[test]
 fn host_filters_set_their_fields() {
-    let (host, _) = host_word([0x12, 0xAB, 0, 0, 0]);
-    assert_eq!(host, host_with(|h| h.drive = 0xAB));
+    check_host_word([0x12, 0xAB, 0, 0, 0], host_with(|h| h.drive = 0xAB));
     for place in 0..8 {
-        let (controls, _) = host_word([0x12, 0, 1 << place, 0, 0]);
-        let (high_pass, _) = host_word([0x12, 0, 0, 1 << place, 0]);
         let mut expected = Host::fresh();
         expected.controls[place] = true;
-        assert_eq!(controls, expected);
-        assert_eq!(built(controls, 9), frame([0x12, 0, 1 << place, 0, 0]));
+        check_host_word([0x12, 0, 1 << place, 0, 0], expected);
         let mut expected = Host::fresh();
         expected.high_pass[place] = true;
-        assert_eq!(high_pass, expected);
-        assert_eq!(built(high_pass, 9), frame([0x12, 0, 0, 1 << place, 0]));
+        check_host_word([0x12, 0, 0, 1 << place, 0], expected);
     }
     for place in 0..7 {
-        let (low_pass, _) = host_word([0x12, 0, 0, 0, 1 << place]);
         let mut expected = Host::fresh();
         expected.low_pass[place] = true;
-        assert_eq!(low_pass, expected);
-        assert_eq!(built(low_pass, 9), frame([0x12, 0, 0, 0, 1 << place]));
+        check_host_word([0x12, 0, 0, 0, 1 << place], expected);
+    }
+}
+
+/// What word 10 with every assigned bit set changes.
+fn fill_inputs(host: &mut Host) {
+    host.rx_preamps = [true; 4];
+    host.orion_jack = 1;
+    (host.mic_bias, host.mic_ptt_disabled) = (true, true);
+    (host.line_in_gain, host.word10_c2_top) = (31, 7);
+    (host.word10_c3, host.word10_c4) = (255, 255);
+}
+
+/// C0 to C4 of word 10, and what they change in a fresh host record.
+const INPUTS_CASES: [HostCase; 20] = [
+    ([0x14, 0, 0, 0, 0], |_| {}),
+    ([0x15, 0, 0, 0, 0], |h| h.mox = true),
+    ([0x14, 0x01, 0, 0, 0], |h| h.rx_preamps[0] = true),
+    ([0x14, 0x02, 0, 0, 0], |h| h.rx_preamps[1] = true),
+    ([0x14, 0x04, 0, 0, 0], |h| h.rx_preamps[2] = true),
+    ([0x14, 0x08, 0, 0, 0], |h| h.rx_preamps[3] = true),
+    ([0x14, 0x10, 0, 0, 0], |h| h.orion_jack = 1),
+    ([0x14, 0x20, 0, 0, 0], |h| h.mic_bias = true),
+    ([0x14, 0x40, 0, 0, 0], |h| h.mic_ptt_disabled = true),
+    ([0x14, 0, 0x01, 0, 0], |h| h.line_in_gain = 1),
+    ([0x14, 0, 0x02, 0, 0], |h| h.line_in_gain = 2),
+    ([0x14, 0, 0x04, 0, 0], |h| h.line_in_gain = 4),
+    ([0x14, 0, 0x08, 0, 0], |h| h.line_in_gain = 8),
+    ([0x14, 0, 0x10, 0, 0], |h| h.line_in_gain = 16),
+    ([0x14, 0, 0x1F, 0, 0], |h| h.line_in_gain = 31),
+    ([0x14, 0, 0x20, 0, 0], |h| h.word10_c2_top = 1),
+    ([0x14, 0, 0x40, 0, 0], |h| h.word10_c2_top = 2),
+    ([0x14, 0, 0x80, 0, 0], |h| h.word10_c2_top = 4),
+    ([0x14, 0, 0xE0, 0, 0], |h| h.word10_c2_top = 7),
+    ([0x14, 0x7F, 0xFF, 0xFF, 0xFF], fill_inputs),
+];
+
+#[test]
+fn host_inputs_set_their_fields() {
+    for (control, change) in INPUTS_CASES {
+        check_host_word(control, host_with(change));
+    }
+    for place in 0..8 {
+        let mut expected = Host::fresh();
+        expected.word10_c3 = 1 << place;
+        check_host_word([0x14, 0, 0, 1 << place, 0], expected);
+        let mut expected = Host::fresh();
+        expected.word10_c4 = 1 << place;
+        check_host_word([0x14, 0, 0, 0, 1 << place], expected);
     }
 }
 
 #[test]
+fn words_0_and_10_leave_each_others_fields_alone() {
+    let (preamp, inputs) = (host_with(|h| h.preamp = true), host_with(fill_inputs));
+    let mut both = inputs;
+    both.preamp = true;
+    let cases = [
+        (preamp, [0x14, 0x7F, 0xFF, 0xFF, 0xFF], both),
+        (both, [0x14, 0, 0, 0, 0], preamp),
+        (inputs, [0, 0, 0, 0x04, 0], both),
+        (both, [0, 0, 0, 0, 0], inputs),
+    ];
+    for (before, control, after) in cases {
+        let mut host = before;
+        read_host_into(&mut host, &frame(control)).unwrap();
+        assert_eq!(host, after, "{control:02X?}");
+    }
+    assert_eq!(built(inputs, 0), frame([0, 0, 0, 0, 0]));
+    assert_eq!(built(preamp, 10), frame([0x14, 0, 0, 0, 0]));
+}
+
+#[test]
 fn unlisted_host_words_set_mox_only() {
-    for address in 10..=127 {
-        let (host, read) = host_word([address << 1 | 1, 0xFF, 0xFF, 0xFF, 0xFF]);
-        assert_eq!(read, address);
-        assert_eq!(host, host_with(|h| h.mox = true));
+    for address in 11..=127 {
+        for (before, mox, fill) in [(Host::fresh(), 1, 0xFF), (busy_host(), 0, 0)] {
+            let control = [address << 1 | mox, fill, fill, fill, fill];
+            let mut host = before;
+            assert_eq!(read_host_into(&mut host, &frame(control)), Ok(address));
+            let mut expected = before;
+            expected.mox = mox == 1;
+            assert_eq!(host, expected);
+        }
     }
 }
 
 #[test]
 fn all_zero_words_give_a_fresh_host() {
     let mut host = Host::fresh();
-    let mut read = |control| host_read(&frame(control), &mut [0; 252], &mut host).unwrap();
-    read([0x01, 0xFB, 0xFF, 0xFF, 0xFE]);
-    for word in 1..=9 {
-        read([word << 1 | 1, 0xFF, 0xFF, 0xFF, 0x7F]);
+    for word in 0..=10 {
+        let (c1, c4) = match word {
+            0 => (0xFB, 0xFE),
+            9 => (0xFF, 0x7F),
+            10 => (0x7F, 0xFF),
+            _ => (0xFF, 0xFF),
+        };
+        read_host_into(&mut host, &frame([word << 1 | 1, c1, 0xFF, 0xFF, c4])).unwrap();
     }
-    for word in 0..=9 {
-        read([word << 1, 0, 0, 0, 0]);
+    assert_eq!(host, full_host());
+    for word in 0..=10 {
+        read_host_into(&mut host, &frame([word << 1, 0, 0, 0, 0])).unwrap();
     }
     assert_eq!(host, Host::fresh());
 }

@@ -38,11 +38,78 @@ pub fn radio_word(control: [u8; 5]) -> (Status, u8) {
     (status, address)
 }
 
+/// Reads a host frame into `host`; gives the answer.
+pub fn read_host_into(host: &mut Host, frame: &[u8]) -> Result<u8, u8> {
+    host_read(frame, &mut [0; 252], host)
+}
+
 /// The host record that C0 to C4 make of a fresh one, and the address.
 pub fn host_word(control: [u8; 5]) -> (Host, u8) {
     let mut host = Host::fresh();
-    let address = host_read(&frame(control), &mut [0; 252], &mut host).unwrap();
+    let address = read_host_into(&mut host, &frame(control)).unwrap();
     (host, address)
+}
+
+/// A record in which every field differs from a fresh one's.
+pub fn busy_host() -> Host {
+    Host {
+        mox: true,
+        speed: 2,
+        source10: 1,
+        source122: 1,
+        boards: 3,
+        microphone: 1,
+        class_e: true,
+        outputs: 85,
+        attenuator: 3,
+        preamp: true,
+        dither: true,
+        random: true,
+        antenna: 1,
+        rx_out: true,
+        relay: 2,
+        duplex: true,
+        receivers: 7,
+        timestamp: true,
+        common: true,
+        transmitter: 14_200_000,
+        frequencies: [1, 22, 333, 4_444, 55_555, u32::MAX, 7_777_777],
+        drive: 200,
+        controls: [true, false, true, true, false, false, true, false],
+        high_pass: [false, true, true, false, true, false, false, true],
+        low_pass: [true, true, false, true, false, false, true],
+        rx_preamps: [true, false, true, true],
+        orion_jack: 1,
+        mic_bias: true,
+        mic_ptt_disabled: true,
+        line_in_gain: 19,
+        word10_c2_top: 5,
+        word10_c3: 0x5A,
+        word10_c4: 0xC3,
+    }
+}
+
+/// The record with the greatest accepted value in every field.
+pub fn full_host() -> Host {
+    Host {
+        speed: 3,
+        source10: 2,
+        outputs: 127,
+        antenna: 3,
+        receivers: 8,
+        transmitter: u32::MAX,
+        frequencies: [u32::MAX; 7],
+        drive: 255,
+        controls: [true; 8],
+        high_pass: [true; 8],
+        low_pass: [true; 7],
+        rx_preamps: [true; 4],
+        line_in_gain: 31,
+        word10_c2_top: 7,
+        word10_c3: 255,
+        word10_c4: 255,
+        ..busy_host()
+    }
 }
 
 /// A fixed sequence of numbers without a visible pattern.
