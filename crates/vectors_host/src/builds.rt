@@ -1,4 +1,4 @@
-// Builds: a record sent whole in ten, and what is refused.
+// Builds: a record sent whole in eleven, and what is refused.
 use crate::audio;
 use crate::frames;
 use crate::print;
@@ -10,10 +10,11 @@ use host::Reading;
 use host::record::Host;
 
 pub fn run() {
-    ten();
+    eleven();
     numbers();
     states_and_sizes();
     values();
+    fronts();
     order();
 }
 
@@ -23,7 +24,7 @@ struct Link {
     heard: Host,
 }
 
-fn ten() {
+fn eleven() {
     let start = Link {
         builder: Builder {
             host: record::marked(),
@@ -31,8 +32,8 @@ fn ten() {
         },
         heard: Host::fresh(),
     };
-    let end = five(five(start));
-    print::named_byte(b"after ten builds: turn ", end.builder.turn);
+    let end = step(five(five(start)));
+    print::named_byte(b"after eleven builds: turn ", end.builder.turn);
     record::show(end.heard);
 }
 
@@ -103,7 +104,7 @@ fn back(frame: &[u8]) {
 }
 
 fn states_and_sizes() {
-    line(10, 85, 7, 252, 512);
+    line(11, 85, 7, 252, 512);
     line(5, 85, 7, 252, 511);
     line(5, 85, 7, 252, 513);
     line(5, 85, 7, 251, 512);
@@ -117,20 +118,40 @@ fn values() {
     line(0, 85, 8, 252, 512);
 }
 
+// Word 10's numbers at their ends, and past them whichever word is due.
+fn fronts() {
+    front(10, 31, 7);
+    front(10, 0, 0);
+    front(0, 32, 5);
+    front(10, 21, 8);
+}
+
 // Each refusal hides those after it in the table.
 fn order() {
-    line(10, 85, 7, 252, 511);
-    line(9, 85, 7, 251, 511);
-    line(9, 128, 7, 251, 512);
+    line(11, 85, 7, 252, 511);
+    line(10, 85, 7, 251, 511);
+    line(10, 128, 7, 251, 512);
 }
 
 // A line for a build of a marked record with such outputs and receivers: how many of the frame's 513
 // bytes are as given, C0 to C4, and the record that comes back.
 fn line(turn: u8, outputs: u8, receivers: u8, count: usize, length: usize) {
-    let mut frame = [0xaau8; 513];
     show_given(turn, outputs, receivers);
     show_sizes(count, length);
-    let built = build_parts(given(turn, outputs, receivers), count, &mut frame, length);
+    outcome(given(turn, outputs, receivers), count, length);
+}
+
+// The same with such a gain and such top bits of C2.
+fn front(turn: u8, gain: u8, top: u8) {
+    print::named_byte(b"build turn ", turn);
+    print::named_byte(b", gain ", gain);
+    print::named_byte(b", top ", top);
+    outcome(with_front(turn, gain, top), 252, 512);
+}
+
+fn outcome(builder: Builder, count: usize, length: usize) {
+    let mut frame = [0xaau8; 513];
+    let built = build_parts(builder, count, &mut frame, length);
     show_built(built);
     show_frame(&frame);
     show_host(built.builder);
@@ -155,6 +176,13 @@ fn given(turn: u8, outputs: u8, receivers: u8) -> Builder {
     let mut host = record::marked();
     host.outputs = outputs;
     host.receivers = receivers;
+    Builder { host, turn }
+}
+
+fn with_front(turn: u8, gain: u8, top: u8) -> Builder {
+    let mut host = record::marked();
+    let front = record::front(gain, top);
+    host.front = front;
     Builder { host, turn }
 }
 

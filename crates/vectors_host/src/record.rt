@@ -4,8 +4,10 @@ use host::record::Antenna;
 use host::record::Attenuator;
 use host::record::Boards;
 use host::record::Controls;
+use host::record::Front;
 use host::record::HighPass;
 use host::record::Host;
+use host::record::Jack;
 use host::record::LowPass;
 use host::record::Microphone;
 use host::record::Relay;
@@ -41,6 +43,7 @@ pub fn marked() -> Host {
         controls: controls(),
         highpass: highpass(),
         lowpass: lowpass(),
+        front: front(21, 5),
     }
 }
 
@@ -79,6 +82,22 @@ fn lowpass() -> LowPass {
         m6: true,
         m12: true,
         m17: true,
+    }
+}
+
+pub fn front(gain: u8, c2top: u8) -> Front {
+    Front {
+        preamp1: true,
+        preamp2: true,
+        preamp3: true,
+        preamp4: true,
+        jack: Jack::PttToTip,
+        bias: true,
+        pttdisabled: true,
+        gain,
+        c2top,
+        c3: 195,
+        c4: 90,
     }
 }
 
@@ -148,12 +167,31 @@ fn switches(c: Controls, h: HighPass, l: LowPass) -> [u32; 23] {
     ]
 }
 
-// MOX, the choices and the rest of word 0, the frequencies, and word 9.
+// Preamps 1 to 4, tip and ring, mic bias, PTT disabled; gain, C2's top bits, C3 and C4.
+fn front_numbers(f: Front) -> [u32; 11] {
+    let jack = f.jack;
+    [
+        f.preamp1 as u32,
+        f.preamp2 as u32,
+        f.preamp3 as u32,
+        f.preamp4 as u32,
+        wide(jack.code()),
+        f.bias as u32,
+        f.pttdisabled as u32,
+        wide(f.gain),
+        wide(f.c2top),
+        wide(f.c3),
+        wide(f.c4),
+    ]
+}
+
+// MOX, the choices and the rest of word 0, the frequencies, and words 9 and 10.
 pub fn show(h: Host) {
     print::named(b"; MOX ", h.mox as u64);
     show_word_0(h);
     show_frequencies(h);
     show_word_9(h);
+    show_word_10(h);
     print::line_end();
 }
 
@@ -179,6 +217,12 @@ fn show_word_9(h: Host) {
     print::list(b", C2", &all, 0, 8);
     print::list(b", C3", &all, 8, 16);
     print::list(b", C4", &all, 16, 23);
+}
+
+fn show_word_10(h: Host) {
+    let front = h.front;
+    let all = front_numbers(front);
+    print::list(b", word 10", &all, 0, 11);
 }
 
 fn wide(n: u8) -> u32 {
