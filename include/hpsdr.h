@@ -159,7 +159,7 @@ struct hpsdr_builder {
 uint32_t hpsdr_builder_fresh(struct hpsdr_builder *builder, size_t builder_cells);
 
 /* Writes the frame whose word is due, with the first 252 numbers of `audio`, and moves the turn on by one, 10
- * going to 0. Refusals: BAD_STATE, LENGTH, SHORT_BUFFER, RANGE. */
+ * going to 0. The whole record is tested, whichever word is due. Refusals: BAD_STATE, LENGTH, SHORT_BUFFER, RANGE. */
 uint32_t hpsdr_build(struct hpsdr_builder *builder, size_t builder_cells, const int16_t *audio, size_t audio_length,
                      uint8_t *frame, size_t frame_length);
 

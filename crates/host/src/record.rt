@@ -68,7 +68,7 @@ pub enum FoundRelay {
     Unassigned,
 }
 
-// Orion's microphone jack: where its PTT goes, and the microphone to the other contact.
+// Orion's microphone jack: the contact that the PTT goes to; the microphone goes to the other.
 pub enum Jack {
     PttToRing,
     PttToTip,
