@@ -87,7 +87,7 @@ carried c g h long-g long-h none =
       tenth = λ z. rw z;
     }
 
--- T-07: "Word 0's preamp stays a field of its own": word 10 leaves it alone, and word 0 leaves word 10's fields alone
+-- word 10 leaves word 0's preamp alone, and word 0 leaves word 10's fields alone
 pub preamps-apart : (c : Control) (h : Host) → (heard 10 c h .preamp ≡ h .preamp) × (heard 0 c h .front ≡ h .front)
 unfolding heard
 preamps-apart c h = (refl, refl)

@@ -1,4 +1,4 @@
--- Document 01, "Words from the host": the named choices, each with its code, and the way back from a code. Assumes nothing.
+-- Document 01, "Words from the host", and T-07: the named choices, each with its code, and the way back from a code. Assumes nothing.
 use Prim.Native.Nat.{ℕ, zero, suc}
 use Rattle.host.specs.declared.record.Speed.{Speed}
 use Rattle.host.specs.declared.record.Source10.{Source10}
@@ -104,7 +104,7 @@ abbrev pub foundRelayCode : FoundRelay → ℕ
 foundRelayCode (FoundRelay.Named relay) = relayCode relay
 foundRelayCode FoundRelay.Unassigned = 3
 
--- T-07: "0 is micPTT to ring and microphone to tip, 1 the reverse"
+-- T-07, "the Orion tip and ring choice"; document 001 has its codes: 0 is PTT to ring and microphone to tip, 1 the reverse
 abbrev pub jackCode : Jack → ℕ
 jackCode Jack.PttToRing = 0
 jackCode Jack.PttToTip = 1
