@@ -7,7 +7,6 @@ use Rattle.host.specs.declared.record.Host.{Host}
 use Rattle.host.specs.declared.record.Controls.{Controls}
 use Rattle.host.specs.declared.record.HighPass.{HighPass}
 use Rattle.host.specs.declared.record.LowPass.{LowPass}
-use Rattle.host.specs.declared.record.Front.{Front}
 use Rattle.host.specs.declared.record.Jack.{Jack}
 use Rattle.host.specs.declared.record.Speed.{Speed}
 use Rattle.host.specs.declared.record.Source10.{Source10}

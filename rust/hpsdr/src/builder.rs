@@ -76,6 +76,13 @@ impl Builder {
     /// builder.host.receivers = 9;
     /// assert_eq!(builder.build(&audio, &mut frame), Err(Refusal::Range));
     /// assert_eq!((builder.turn, frame[3]), (3, 0x04));
+    ///
+    /// // Receiver 1's preamp and a line-in gain of 31 go out with word 10, the last.
+    /// let mut builder = Builder { turn: 10, ..Builder::fresh() };
+    /// builder.host.rx_preamps[0] = true;
+    /// builder.host.line_in_gain = 31;
+    /// assert_eq!(builder.build(&audio, &mut frame), Ok(()));
+    /// assert_eq!((&frame[3..8], builder.turn), (&[0x14, 0x01, 0x1F, 0, 0][..], 0));
     /// ```
     pub fn build(&mut self, audio: &[i16], frame: &mut [u8]) -> Result<(), Refusal> {
         let mut cells = Cells::of(self);
