@@ -1,7 +1,7 @@
 //! How a case is made: a valid call of one kind, and then none, one or two of the twists of its kind.
 
+use crate::both::Both;
 use crate::lent::{Guards, Left};
-use crate::model::{returned, Answer};
 use crate::random::Random;
 
 /// A call of the header, with the name by which it is reported and the answers that it can give.
@@ -48,8 +48,8 @@ pub trait Case: Sized + 'static {
 /// What the library returned, or how the two sides differ.
 pub type Outcome = Result<u32, String>;
 
-pub fn outcome(library: u32, reference: Answer, buffers: &[&dyn Left]) -> Outcome {
-    let reference = returned(reference);
+pub fn outcome(both: Both, buffers: &[&dyn Left]) -> Outcome {
+    let Both { library, reference } = both;
     if library != reference {
         return Err(format!("library {library:#x}, reference {reference:#x}"));
     }

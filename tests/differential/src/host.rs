@@ -1,16 +1,15 @@
 //! Frames from the host, read and built.
 
+use crate::both;
 use crate::case::{outcome, Call, Case, Draw, Outcome, Part, Twist};
 use crate::cells::{
     self, BUILDER_MOST, HOST, HOST_MOST, LINE_IN_GAIN, OUTPUTS, RECEIVERS, TURN, WORD10_C2_TOP,
 };
 use crate::lent::Guards;
-use crate::model;
 use crate::twist::{
     cell_count, cell_value, damage, damage_sync, frame_length, slice_length, valid_cells,
     valid_numbers, FRAME, SYNC,
 };
-use hpsdr::raw;
 use std::ops::RangeInclusive;
 
 const AUDIO: usize = 252;
@@ -146,19 +145,8 @@ impl Case for Read {
         let mut frame = guards.lend("frame", &self.frame);
         let mut audio = guards.lend("audio", &self.audio);
         let mut host = guards.lend("host", &self.host);
-        // SAFETY: the slices are whole and apart.
-        let library = unsafe {
-            raw::hpsdr_host_read(
-                frame.pointer(),
-                frame.length(),
-                audio.pointer(),
-                audio.length(),
-                host.pointer(),
-                host.length(),
-            )
-        };
-        let reference = model::host_read(frame.reference(), audio.reference(), host.reference());
-        outcome(library, reference, &[&frame, &audio, &host])
+        let both = both::host_read(&mut frame, &mut audio, &mut host);
+        outcome(both, &[&frame, &audio, &host])
     }
 }
 
@@ -243,18 +231,7 @@ impl Case for Build {
         let mut builder = guards.lend("builder", &self.builder);
         let mut audio = guards.lend("audio", &self.audio);
         let mut frame = guards.lend("frame", &self.frame);
-        // SAFETY: the slices are whole and apart.
-        let library = unsafe {
-            raw::hpsdr_build(
-                builder.pointer(),
-                builder.length(),
-                audio.pointer(),
-                audio.length(),
-                frame.pointer(),
-                frame.length(),
-            )
-        };
-        let reference = model::build(builder.reference(), audio.reference(), frame.reference());
-        outcome(library, reference, &[&builder, &audio, &frame])
+        let both = both::build(&mut builder, &mut audio, &mut frame);
+        outcome(both, &[&builder, &audio, &frame])
     }
 }

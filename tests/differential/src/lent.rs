@@ -54,6 +54,10 @@ pub struct Lent<T> {
 }
 
 impl<T: Number> Lent<T> {
+    pub fn name(&self) -> &'static str {
+        self.name
+    }
+
     pub fn length(&self) -> usize {
         self.library.len() - 2 * self.guard
     }

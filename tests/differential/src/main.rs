@@ -3,8 +3,6 @@
 
 mod case;
 mod host;
-mod lent;
-mod model;
 mod options;
 mod plain;
 mod radio;
@@ -15,7 +13,7 @@ mod twist;
 mod whole;
 
 use case::{made, Call, Case, Draw, Part};
-use differential::{cells, random};
+use differential::{both, cells, lent, random};
 use lent::Guards;
 use options::{Options, USAGE};
 use plain::{Builder, Fresh, Host, Layout, Status, StreamFresh};

@@ -1,11 +1,10 @@
 //! The calls that only write a record: the layout's row and the fresh records.
 
+use crate::both::{self, Both};
 use crate::case::{outcome, Call, Case, Draw, Outcome, Twist};
 use crate::cells;
-use crate::lent::Guards;
-use crate::model::{self, Answer};
+use crate::lent::{Guards, Lent};
 use crate::twist::{cell_count, STRANGE_COUNTS};
-use hpsdr::raw;
 use std::marker::PhantomData;
 
 /// What a fresh record is written over is not looked at, so it is any cells at all.
@@ -40,10 +39,8 @@ impl Case for Layout {
 
     fn compare(self, guards: &Guards) -> Outcome {
         let mut row = guards.lend("row", &self.row);
-        // SAFETY: the slice is whole.
-        let library = unsafe { raw::hpsdr_layout(self.receivers, row.pointer(), row.length()) };
-        let reference = model::layout(self.receivers, row.reference());
-        outcome(library, reference, &[&row])
+        let both = both::layout(self.receivers, &mut row);
+        outcome(both, &[&row])
     }
 }
 
@@ -52,10 +49,7 @@ pub trait Record: 'static {
     const NAME: &'static str;
     const CELLS: usize;
 
-    /// # Safety
-    /// The cells are lent.
-    unsafe fn library(cells: *mut u32, length: usize) -> u32;
-    fn reference(cells: &mut [u32]) -> Answer;
+    fn made_fresh(cells: &mut Lent<u32>) -> Both;
 }
 
 pub struct Fresh<R> {
@@ -80,27 +74,21 @@ impl<R: Record> Case for Fresh<R> {
 
     fn compare(self, guards: &Guards) -> Outcome {
         let mut cells = guards.lend("cells", &self.cells);
-        // SAFETY: the slice is whole.
-        let library = unsafe { R::library(cells.pointer(), cells.length()) };
-        let reference = R::reference(cells.reference());
-        outcome(library, reference, &[&cells])
+        let both = R::made_fresh(&mut cells);
+        outcome(both, &[&cells])
     }
 }
 
 macro_rules! fresh_record {
-    ($record:ident, $cells:expr, $call:ident, $model:path) => {
+    ($record:ident, $cells:expr, $call:ident, $both:path) => {
         pub struct $record;
 
         impl Record for $record {
             const NAME: &'static str = stringify!($call);
             const CELLS: usize = $cells;
 
-            unsafe fn library(cells: *mut u32, length: usize) -> u32 {
-                raw::$call(cells, length)
-            }
-
-            fn reference(cells: &mut [u32]) -> Answer {
-                $model(cells)
+            fn made_fresh(cells: &mut Lent<u32>) -> Both {
+                $both(cells)
             }
         }
     };
@@ -110,14 +98,14 @@ fresh_record!(
     Status,
     cells::STATUS_MOST.len(),
     hpsdr_status_fresh,
-    model::status_fresh
+    both::status_fresh
 );
-fresh_record!(Host, cells::HOST, hpsdr_host_fresh, model::host_fresh);
+fresh_record!(Host, cells::HOST, hpsdr_host_fresh, both::host_fresh);
 fresh_record!(
     Builder,
     cells::BUILDER_MOST.len(),
     hpsdr_builder_fresh,
-    model::builder_fresh
+    both::builder_fresh
 );
 
 pub struct StreamFresh {
@@ -146,16 +134,7 @@ impl Case for StreamFresh {
     fn compare(self, guards: &Guards) -> Outcome {
         let mut counts = guards.lend("counts", &self.counts);
         let mut held = guards.lend("held", &self.held);
-        // SAFETY: the slices are whole and apart.
-        let library = unsafe {
-            raw::hpsdr_stream_fresh(
-                counts.pointer(),
-                counts.length(),
-                held.pointer(),
-                held.length(),
-            )
-        };
-        let reference = model::stream_fresh(counts.reference(), held.reference());
-        outcome(library, reference, &[&counts, &held])
+        let both = both::stream_fresh(&mut counts, &mut held);
+        outcome(both, &[&counts, &held])
     }
 }

@@ -1,14 +1,13 @@
 //! Frames from the radio, read and written.
 
+use crate::both;
 use crate::case::{outcome, Call, Case, Draw, Outcome, Twist};
 use crate::cells::{STATUS_MOST, VERSIONS};
 use crate::lent::Guards;
-use crate::model;
 use crate::twist::{
     cell_count, cell_value, damage, damage_sync, frame_length, slice_length, valid_cells,
     valid_numbers, FRAME, STRANGE_COUNTS, SYNC,
 };
-use hpsdr::raw;
 use reference::row;
 
 const PADDED: [usize; 6] = [3, 4, 5, 6, 7, 8];
@@ -110,28 +109,8 @@ impl Case for Read {
         let mut iq = guards.lend("iq", &self.iq);
         let mut mic = guards.lend("mic", &self.mic);
         let mut status = guards.lend("status", &self.status);
-        // SAFETY: the slices are whole and apart.
-        let library = unsafe {
-            raw::hpsdr_radio_read(
-                frame.pointer(),
-                frame.length(),
-                self.receivers,
-                iq.pointer(),
-                iq.length(),
-                mic.pointer(),
-                mic.length(),
-                status.pointer(),
-                status.length(),
-            )
-        };
-        let reference = model::radio_read(
-            frame.reference(),
-            self.receivers,
-            iq.reference(),
-            mic.reference(),
-            status.reference(),
-        );
-        outcome(library, reference, &[&frame, &iq, &mic, &status])
+        let both = both::radio_read(&mut frame, self.receivers, &mut iq, &mut mic, &mut status);
+        outcome(both, &[&frame, &iq, &mic, &status])
     }
 }
 
@@ -207,29 +186,14 @@ impl Case for Write {
         let mut iq = guards.lend("iq", &self.iq);
         let mut mic = guards.lend("mic", &self.mic);
         let mut frame = guards.lend("frame", &self.frame);
-        // SAFETY: the slices are whole and apart.
-        let library = unsafe {
-            raw::hpsdr_radio_write(
-                status.pointer(),
-                status.length(),
-                self.word,
-                self.receivers,
-                iq.pointer(),
-                iq.length(),
-                mic.pointer(),
-                mic.length(),
-                frame.pointer(),
-                frame.length(),
-            )
-        };
-        let reference = model::radio_write(
-            status.reference(),
+        let both = both::radio_write(
+            &mut status,
             self.word,
             self.receivers,
-            iq.reference(),
-            mic.reference(),
-            frame.reference(),
+            &mut iq,
+            &mut mic,
+            &mut frame,
         );
-        outcome(library, reference, &[&status, &iq, &mic, &frame])
+        outcome(both, &[&status, &iq, &mic, &frame])
     }
 }

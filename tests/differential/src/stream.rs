@@ -1,12 +1,11 @@
 //! Single calls on a stream record: whether it is sound, and one feeding.
 
+use crate::both;
 use crate::case::{outcome, Call, Case, Draw, Outcome, Twist};
 use crate::cells::{COUNTS, HELD};
 use crate::lent::Guards;
-use crate::model;
 use crate::text::text;
 use crate::twist::{cell_count, resize, FRAME};
-use hpsdr::raw;
 
 pub const PIECE_MOST: usize = 4096;
 pub const OUTPUT_LEAST: usize = 4096;
@@ -171,17 +170,8 @@ impl Case for Sound {
     fn compare(self, guards: &Guards) -> Outcome {
         let mut counts = guards.lend("counts", &self.record.counts);
         let mut held = guards.lend("held", &self.record.held);
-        // SAFETY: the slices are whole and apart.
-        let library = unsafe {
-            raw::hpsdr_stream_sound(
-                counts.pointer(),
-                counts.length(),
-                held.pointer(),
-                held.length(),
-            )
-        };
-        let reference = model::stream_sound(counts.reference(), held.reference());
-        outcome(library, reference, &[&counts, &held])
+        let both = both::stream_sound(&mut counts, &mut held);
+        outcome(both, &[&counts, &held])
     }
 }
 
@@ -212,29 +202,11 @@ impl Feed {
         let mut held = guards.lend("held", &self.record.held);
         let mut piece = guards.lend("piece", &self.piece);
         let mut output = guards.lend("output", &self.output);
-        // SAFETY: the slices are whole and apart.
-        let library = unsafe {
-            raw::hpsdr_stream_feed(
-                counts.pointer(),
-                counts.length(),
-                held.pointer(),
-                held.length(),
-                piece.pointer(),
-                piece.length(),
-                output.pointer(),
-                output.length(),
-            )
-        };
-        let reference = model::stream_feed(
-            counts.reference(),
-            held.reference(),
-            piece.reference(),
-            output.reference(),
-        );
+        let both = both::stream_feed(&mut counts, &mut held, &mut piece, &mut output);
         self.record.counts.copy_from_slice(counts.left());
         self.record.held.copy_from_slice(held.left());
         self.output.copy_from_slice(output.left());
-        outcome(library, reference, &[&counts, &held, &piece, &output])
+        outcome(both, &[&counts, &held, &piece, &output])
     }
 
     /// The frames that stand at the output's start.

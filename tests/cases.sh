@@ -1,0 +1,144 @@
+#!/bin/sh
+# Runs the case files, whose answers were worked out from document 01 by hand, through the library's C door and
+# through the reference. Then it shows that a mistake is found: a copy of a case file with one mistake in it must
+# end with status 1, and name the file and the line.
+# POSIX sh, awk and cargo; the archive is made by tests/archive.sh.
+set -eu
+cd "$(dirname "$0")/.."
+HPSDR_ARCHIVE=${HPSDR_ARCHIVE:-$PWD/target/archive}
+export HPSDR_ARCHIVE
+program=${CARGO_TARGET_DIR:-target/cargo}/release/cases
+data=tests/cases/data
+room=$(mktemp -d)
+trap 'rm -rf "$room"' EXIT
+found=0
+
+fails() {
+    printf 'tests/cases.sh: %s\n' "$*" >&2
+    exit 1
+}
+
+# Runs a file of the room, which must fail, and say so much at the line, of that file or of the named one.
+must_fail() { # NAME LINE SAYS [NAMED]
+    status=0
+    "$program" "$room/$1" >"$room/out" 2>"$room/said" || status=$?
+    [ "$status" -eq 1 ] || fails "$1 with a mistake (\"$3\") ends with status $status"
+    awk -v start="$room/${4:-$1}:$2: " -v says="$3" '
+        index($0, start) == 1 && index($0, says) { found = 1 }
+        END { exit !found }' "$room/said" ||
+        fails "$1 with a mistake: no line $2 with \"$3\" in: $(head -n 3 "$room/said")"
+    found=$((found + 1))
+}
+
+# A copy of the file in which a text that stands there once is another.
+copy_with() { # NAME TEXT OTHER
+    cp "$data"/*.parts "$room"
+    : >"$room/lines"
+    awk -v text="$2" -v other="$3" -v lines="$room/lines" '
+        (at = index($0, text)) {
+            $0 = substr($0, 1, at - 1) other substr($0, at + length(text))
+            print NR >lines
+            if (index(substr($0, at + length(other)), text)) print NR >lines
+        }
+        { print }' "$data/$1" >"$room/$1"
+    [ "$(wc -l <"$room/lines")" -eq 1 ] || fails "$1 does not have \"$2\" once"
+    line=$(cat "$room/lines")
+}
+
+# One mistake, which is found at its own line.
+mistake() { # NAME TEXT OTHER SAYS
+    copy_with "$1" "$2" "$3"
+    must_fail "$1" "$line" "$4"
+}
+
+# One mistake in a case that begins some lines above it, where it is reported.
+mistake_below() { # LINES NAME TEXT OTHER SAYS
+    copy_with "$2" "$3" "$4"
+    must_fail "$2" $((line - $1)) "$5"
+}
+
+cargo build --offline --release -q -p cases
+"$program" "$data"/*.cases
+
+# An expected number that is one off: of a sample, a byte, a field, a count, a frame that is handed out.
+mistake radio_read.cases 'iq at 0 = 8388607' 'iq at 0 = 8388606' \
+    'radio_read row a: 7F FF FF: iq[0]: expected 8388606; door 8388607; reference 8388607'
+mistake_below 1 host_build.cases 'control 01 BB FF BE C5' 'control 01 BB FF BE C4' \
+    'build outputs 127, receivers 1: frame[7]: expected C4; door C5; reference C5'
+mistake host_read.cases 'address 2 | host frequencies[0] 7100000' 'address 2 | host frequencies[0] 7100001' \
+    'host frequencies[0]: expected 7100001; door 7100000; reference 7100000'
+mistake stream.cases 'skipped 3582 total' 'skipped 3583 total' 'counts skipped: expected 3583; door 3582; reference 3582'
+mistake_below 3 stream.cases 'at 9 x 503 = 05' 'at 9 x 503 = 04' 'handed[9]: expected 04; door 05; reference 05'
+mistake layout.cases 'slots 19 padding 10' 'slots 19 padding 11' 'row padding: expected 11; door 10; reference 10'
+
+# An answer, and what is found, that is another.
+mistake radio_read.cases 'receivers 0 | answer 2 word 0' 'receivers 0 | answer 3 word 0' \
+    'expected answer 3 word 0; door answer 2 word 0; reference answer 2 word 0'
+mistake radio_read.cases 'answer 0 word 31 | status dot 1 ptt 1' 'answer 0 word 30 | status dot 1 ptt 1' \
+    'expected answer 0 word 30; door answer 0 word 31; reference answer 0 word 31'
+mistake radio_write.cases 'word 256 | answer 9' 'word 256 | answer 0' 'expected answer 0; door answer 9; reference answer 9'
+
+# A cell that is claimed to be as it was: in a record, past what a call writes, in a lent frame; and one that
+# is claimed to have changed after a refusal.
+mistake radio_read.cases '| answer 0 word 1 | status dot 1' '| answer 0 word 1' \
+    'status dot: expected 0; door 1; reference 1'
+mistake radio_read.cases '512 bytes | answer 0 word 1 | iq at 0 x 126' '512 bytes | answer 0 word 1 | iq at 0 x 125' \
+    'iq[125]: expected 1234567; door 0; reference 0'
+mistake radio_read.cases 'answer 0 word 1 | iq at 0 x 126 = 0 | mic at 0 x 63 = 0 | status heard' 'answer 0 word 1' \
+    'iq: and 122 cells more'
+mistake host_build.cases 'turn 5 outputs 128 | answer 9' 'turn 5 outputs 128 | answer 9 | builder turn 6' \
+    'builder turn: expected 6; door 5; reference 5'
+
+# A word that is not known: a call, an argument, a cell, contents, a kind, what is found.
+mistake layout.cases 'layout of 3 |' 'layuot of 3 |' "unknown word 'layuot'"
+mistake layout.cases 'receivers 4 |' 'recievers 4 |' "unknown word 'recievers'"
+mistake radio_read.cases 'answer 0 word 0 | status pll 1' 'answer 0 word 0 | status pl 1' "status: unknown word 'pl'"
+mistake fresh.cases 'answer 0 | builder fresh turn 0 length' 'answer 0 | builder frehs turn 0 length' \
+    "builder: unknown word 'frehs'"
+mistake stream.cases 'define counts fresh' 'define count fresh' "unknown word 'count'"
+mistake host_read.cases 'control 00 63 00 00 00 | answer 0 address 0' 'control 00 63 00 00 00 | answer 0 word 0' \
+    "unknown word 'word'"
+
+# What is missing: an answer, what is found, an argument, a field of a record, a title, a part of a description.
+mistake layout.cases '| answer 0 | row slot 8' '| row slot 8' 'the answer is missing'
+mistake layout.cases 'receivers 0 | answer 2' 'receivers 0 | answer' 'the answer is missing'
+mistake radio_read.cases 'receivers 9 | answer 2 word 0' 'receivers 9 | answer 2' 'word is missing'
+mistake_below -2 layout.cases 'usual layout | row 4 of 77' 'usual layout' 'row is missing'
+mistake fresh.cases '| builder marked turn 7 | answer 0' '| builder marked | answer 0' 'builder turn is missing'
+mistake layout.cases 'layout of 2 |' 'layout |' "the case's title is missing"
+mistake radio_read.cases 'iq at 0 = -8388608' 'iq at 0 -8388608' "iq: '=' is missing"
+
+# A number that its cell cannot hold, that is none, or that stands past the end; cells said twice, and lengths.
+mistake radio_read.cases 'mic at 0 = -32768' 'mic at 0 = -32769' 'mic: -32769 is out of range: -32768 to 32767'
+mistake radio_read.cases 'control 00 20 00 00 00' 'control 00 2G 00 00 00' "frame: '2G' is not a number"
+mistake radio_read.cases 'control 00 40 00 00 00' 'control 00 40 00 00' 'frame: control is not five bytes'
+mistake layout.cases 'receivers 9 | answer' 'receivers -1 | answer' 'receivers: -1 is out of range'
+mistake layout.cases 'receivers 257 | answer 2' 'receivers 257 | answer 10' "the answer: '10' is not a number from 0 to 9"
+mistake stream.cases '0 | held at 513 = 01 | answer 1 frames 0' '0 | held at 514 = 01 | answer 1 frames 0' \
+    'held: there is no place 514 among 514'
+mistake layout.cases 'slot 14 slots 36' 'slot 14 slot 36' "row: 'slot' is said twice"
+mistake fresh.cases 'answer 0 | status fresh length 27 of 7' 'answer 0 | status fresh' \
+    'status: 27 cells are given and 26 expected'
+mistake_below 1 stream.cases 'pieces 5 of 513 at 4 = 6' 'pieces 5 of 513 at 4 = 5' 'the pieces are shorter than the input'
+mistake layout.cases 'layout of 6 |' 'layout of 5 |' 'has a case of the same title'
+
+# Mistakes in a file of parts are reported there.
+copy_with fresh.cases 'over a full record' 'over a record'
+awk '{ sub(/pll 0 toggle 0/, "pll 0") } { print }' "$data/radio.parts" >"$room/radio.parts"
+must_fail fresh.cases "$(grep -n 'define status fresh' "$data/radio.parts" | cut -d: -f1)" 'toggle is missing' radio.parts
+
+# A file without a case, and one that is not there.
+: >"$room/empty.cases"
+must_fail empty.cases 1 'there is no case in the file'
+grep '^#' "$data/stream.cases" >"$room/comments.cases"
+must_fail comments.cases 1 'there is no case in the file'
+must_fail missing.cases 1 'No such file'
+
+# Every failing case is listed, and the others are run.
+awk '{ sub(/answer 2/, "answer 3") } { print }' "$data/layout.cases" >"$room/layout.cases"
+must_fail layout.cases "$(grep -n 'layout of 0' "$data/layout.cases" | cut -d: -f1)" 'expected answer 3; door answer 2'
+[ "$(wc -l <"$room/said")" -eq "$(grep -c 'answer 2' "$data/layout.cases")" ] || fails 'not every failing case is listed'
+grep -q "layout.cases: $(grep -c '^layout' "$data/layout.cases") cases" "$room/out" || fails 'the cases are not all run'
+
+cargo test --offline --release -q -p cases >"$room/out" 2>&1 || fails "$(cat "$room/out")"
+echo "tests/cases.sh: $found mistakes are found"

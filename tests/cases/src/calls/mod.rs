@@ -1,0 +1,28 @@
+//! The calls that a case file can make.
+
+mod fresh;
+mod host;
+mod layout;
+mod radio;
+mod stream;
+
+use crate::call::Call;
+
+static CALLS: [&Call; 12] = [
+    &layout::LAYOUT,
+    &fresh::STATUS,
+    &fresh::HOST,
+    &fresh::BUILDER,
+    &fresh::STREAM,
+    &radio::READ,
+    &radio::WRITE,
+    &host::READ,
+    &host::BUILD,
+    &stream::SOUND,
+    &stream::FEED,
+    &stream::PIECES,
+];
+
+pub fn find(name: &str) -> Option<&'static Call> {
+    CALLS.iter().find(|call| call.name == name).copied()
+}
