@@ -12,9 +12,7 @@ machine=$(uname -m)
 
 sources() {
     rt version
-    for crate in wire layout radio host stream capi; do
-        find "crates/$crate" -type f -path '*/src/*' -exec sha256sum {} +
-    done | sort
+    find crates -type f -path 'crates/*/src/*' -exec sha256sum {} + | sort
 }
 
 # Links in one folder to all of another that it does not have itself.

@@ -13,21 +13,25 @@ use Rattle.wire.proofs.First.{only-accepted}
 use Rattle.radio.specs.Read as Radio
 use Rattle.host.specs.Build as Build
 use Rattle.host.specs.Read as Host
-use Rattle.host.specs.Words.{lastWord}
+use Rattle.host_words.specs.Words.{lastWord}
 use Rattle.host.proofs.BuildCases.{accepted-ready, build-accepted, build-answer}
 use Rattle.stream.specs.Feed as Feed
-use Rattle.capi.specs.Cells.{within, number}
-use Rattle.capi.specs.Status.{statusMost, statusOf, statusCells}
-use Rattle.capi.specs.Host.{hostCount, hostMost, builderMost, hostOf, hostCells, builderOf}
-use Rattle.capi.specs.HostCalls as door-host
-use Rattle.capi.specs.Radio as door-radio
-use Rattle.capi.specs.Stream as door-stream
-use Rattle.capi.specs.Stream.{lent, streamOf, countsOf}
-use Rattle.capi.proofs.Cases.{enough, kept-accepted}
-use Rattle.capi.proofs.Faithful.{StatusFits, HostFits, status-back, host-back, builder-back, stream-back}
-use Rattle.capi.proofs.HostCases as host-cases
-use Rattle.capi.proofs.RadioCases as radio-cases
-use Rattle.capi.proofs.StreamCases as stream-cases
+use Rattle.cells.specs.Cells.{within, number}
+use Rattle.radio_door.specs.Status.{statusMost, statusOf, statusCells}
+use Rattle.host_cells.specs.Host.{hostCount, hostCells}
+use Rattle.host_from_cells.specs.FromCells.{hostMost, builderMost, hostOf, builderOf}
+use Rattle.host_door.specs.HostCalls as door-host
+use Rattle.radio_door.specs.Radio as door-radio
+use Rattle.stream_door.specs.Stream as door-stream
+use Rattle.stream_cells.specs.Stream.{lent, streamOf, countsOf}
+use Rattle.cells.proofs.Cases.{enough, kept-accepted}
+use Rattle.radio_door.proofs.Faithful.{StatusFits, status-back}
+use Rattle.host_from_cells.proofs.Faithful.{HostFits, host-back, builder-back}
+use Rattle.stream_cells.proofs.Cases as stream-room
+use Rattle.stream_cells.proofs.Faithful.{stream-back}
+use Rattle.host_door.proofs.HostCases as host-cases
+use Rattle.radio_door.proofs.RadioCases as radio-cases
+use Rattle.stream_door.proofs.StreamCases as stream-cases
 
 module _ (frame : List ℕ) (n : ℕ) (iq mic : List ℤ) (cells : List ℕ) (record-held : within statusMost cells ≡ true) where
   abbrev read : Radio.Outcome
@@ -74,7 +78,7 @@ module _ (counts held piece output : List ℕ) (record-held : lent counts held �
 
   pub feed-leaves : numberOf (fed .answer) ≡ 0 → length (fed .next .held) ≡ 514 → streamOf (door-stream.feedIn counts held piece output .counts) (door-stream.feedIn counts held piece output .held) ≡ fed .next
   feed-leaves accepted full =
-      let room = stream-cases.enough counts held record-held in
+      let room = stream-room.enough counts held record-held in
       ap (λ (o : door-stream.Outcome). streamOf (o .counts) (o .held)) (stream-cases.feed-good counts held piece output record-held)
       ∙ (λ i. streamOf (kept-accepted (fed .answer) (countsOf (fed .next)) counts accepted i) (kept-accepted (fed .answer) (fed .next .held) held accepted i))
       ∙ stream-back (fed .next) counts held full (room .0) (room .1)

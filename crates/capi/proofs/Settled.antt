@@ -5,10 +5,10 @@ use mathlib.Core.List.{List}
 use Prim.Native.Nat.{ℕ}
 use lib.IntN.{ℤ}
 use Rattle.wire.proofs.Settled.{settled}
-use Rattle.capi.specs.Cells.{Written, wrote}
-use Rattle.capi.specs.HostCalls as Host
-use Rattle.capi.specs.Radio as Radio
-use Rattle.capi.specs.Stream as Stream
+use Rattle.cells.specs.Cells.{Written, wrote}
+use Rattle.host_door.specs.HostCalls as Host
+use Rattle.radio_door.specs.Radio as Radio
+use Rattle.stream_door.specs.Stream as Stream
 
 -- a write, the layout's row and the fresh records, whatever their definition gives
 pub one-slice-settled : (given : Written) (k k′ : ℕ) (lent lent′ : List ℕ) → wrote k lent ≡ given → wrote k′ lent′ ≡ given → (k ≡ k′) × (lent ≡ lent′)

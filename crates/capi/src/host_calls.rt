@@ -1,100 +1,39 @@
 // Frames from the host.
-use crate::BAD_STATE;
-use crate::cells::offer;
-use crate::cells::put;
-use crate::cells::settle;
-use crate::cells::within;
-use crate::host_cells::HOST;
-use crate::host_cells::MOST;
-use crate::host_cells::builder_of;
-use crate::host_cells::host_cells;
-use crate::host_cells::host_of;
-use host::Built;
-use host::Reading;
-use host::record::Host;
+use host_door::build;
+use host_door::builder_fresh;
+use host_door::host_fresh;
+use host_door::host_read;
 ghost use mathlib.Core.Path.{_≡_};
 ghost use mathlib.Core.List.{[], _∷_, _++_};
-ghost use Prim.Native.Nat.{suc, _≤_};
-ghost use lib.ListN.{length};
-ghost use Rattle.wire.specs.Answers.{numberOf};
-ghost use Rattle.host.specs.Record.{fresh};
-ghost use Rattle.capi.specs.Cells.{got, kept, wrote, offered};
-ghost use Rattle.capi.specs.Host.{hostCount, hostCells};
-ghost use Rattle.capi.specs.HostCalls.{gave, built, hostReadOf, turned, hostBuildOf};
+ghost use Rattle.host_record.specs.Record.{fresh};
+ghost use Rattle.cells.specs.Cells.{wrote, offered};
+ghost use Rattle.host_cells.specs.Host.{hostCells};
+ghost use Rattle.host_door.specs.HostCalls.{gave, built, hostReadOf, hostBuildOf};
 
 #[no_mangle]
 pub extern "C" fn hpsdr_host_read(frame: &[u8], audio: &mut [i16], host: &mut [u32]) -> u32
     ensures { λ r. ⌜ gave r (now (host .exit)) (now (audio .exit)) ≡ hostReadOf (now (frame .entry)) (now (audio .entry)) (now (host .entry)) ⌝ }
 {
-    if !within(&MOST[..HOST], host) {
-        return BAD_STATE;
-    }
-    let given = host_of(host);
-    let reading = host::read(frame, audio, given);
-    keep(reading, host)
-}
-
-// What a read returns; accepted, the record after it stands in the cells.
-pub(crate) fn keep(reading: Reading, cells: &mut [u32]) -> u32
-    requires { ⌜ hostCount ≤ length (now cells) ⌝ }
-    ensures { λ r. ⌜ r ≡ got (numberOf (reading .answer)) (reading .address) ⌝ }
-    ensures { λ _. ⌜ now (cells .exit) ≡ kept (reading .answer) (hostCells (reading .host)) (now (cells .entry)) ⌝ }
-{
-    let answer = reading.answer;
-    let fields = host_cells(reading.host);
-    settle(answer, reading.address, &fields, cells)
+    host_read(frame, audio, host)
 }
 
 #[no_mangle]
 pub extern "C" fn hpsdr_build(builder: &mut [u32], audio: &[i16], frame: &mut [u8]) -> u32
     ensures { λ r. ⌜ built r (now (builder .exit)) (now (frame .exit)) ≡ hostBuildOf (now (builder .entry)) (now (audio .entry)) (now (frame .entry)) ⌝ }
 {
-    if !within(&MOST, builder) {
-        return BAD_STATE;
-    }
-    let given = builder_of(builder);
-    let done = given.build(audio, frame);
-    turn_on(done, builder)
-}
-
-// What a build returns; accepted, the next turn stands in its cell. A build changes nothing else of its builder.
-pub(crate) fn turn_on(done: Built, cells: &mut [u32]) -> u32
-    requires { ⌜ suc hostCount ≤ length (now cells) ⌝ }
-    ensures { λ r. ⌜ r ≡ numberOf (done .answer) ⌝ }
-    ensures { λ _. ⌜ now (cells .exit) ≡ turned (done .answer) (done .builder .turn) (now (cells .entry)) ⌝ }
-{
-    let answer = done.answer;
-    let builder = done.builder;
-    let turn = builder.turn;
-    let number = wire::number(answer);
-    if number != 0 {
-        return number as u32;
-    }
-    cells[HOST] = turn as u32;
-    number as u32
+    build(builder, audio, frame)
 }
 
 #[no_mangle]
 pub extern "C" fn hpsdr_host_fresh(host: &mut [u32]) -> u32
     ensures { λ r. ⌜ wrote r (now (host .exit)) ≡ offered (hostCells fresh) (now (host .entry)) ⌝ }
 {
-    let fields = host_cells(Host::fresh());
-    offer(host, &fields)
+    host_fresh(host)
 }
 
 #[no_mangle]
 pub extern "C" fn hpsdr_builder_fresh(builder: &mut [u32]) -> u32
     ensures { λ r. ⌜ wrote r (now (builder .exit)) ≡ offered (hostCells fresh ++ (0 ∷ [])) (now (builder .entry)) ⌝ }
 {
-    let fields = with_turn(&host_cells(Host::fresh()));
-    offer(builder, &fields)
-}
-
-// A host record's cells, and turn 0 after them.
-pub(crate) fn with_turn(host: &[u32; HOST]) -> [u32; HOST + 1]
-    ensures { λ r. ⌜ r ≡ now (host .entry) ++ (0 ∷ []) ⌝ }
-{
-    let mut cells = [0u32; HOST + 1];
-    put(&mut cells, 0, host);
-    cells
+    builder_fresh(builder)
 }

@@ -3,12 +3,6 @@
 // A record crosses as a lent slice of numbers, its cells: one for each field, a flag as 1 or 0, a choice as
 // its code. Cells that can be no record are refused as BAD_STATE, before all else, and a refusal writes
 // nothing. What a call returns is its answer in bits 7 to 0, and what it found in the bits above.
-mod cells;
 mod host_calls;
-mod host_cells;
 mod radio_calls;
-mod status;
 mod stream_calls;
-
-// The number of the refusal of cells that can be no record.
-pub const BAD_STATE: u32 = 1;

@@ -13,8 +13,9 @@ use Rattle.wire.specs.Answers.{first, numberOf}
 use Rattle.wire.specs.declared.Answer.{Answer}
 use Rattle.wire.specs.declared.Answer.the-variants.{Accepted}
 use Rattle.host.specs.Build.{refusals, Outcome, refused, accepted, buildOf}
-use Rattle.host.specs.Sent.{InRange}
-use Rattle.host.specs.Words.{lastWord}
+use Rattle.host_turn.proofs.Sendable.{none-in-range, in-range-none}
+use Rattle.host_turn.specs.Sent.{InRange}
+use Rattle.host_words.specs.Words.{lastWord}
 use Rattle.host.specs.declared.Builder.{Builder}
 
 -- a build that no test refuses
@@ -28,25 +29,16 @@ module _ (b : Builder) (count room : ℕ) where
   pub accepted-ready : first (refusals b count room) ≡ Accepted → Ready b count room
   accepted-ready e =
       let none = accepted-none (refusals b count room) refl e in
-      let range = none .1 .1 .1 in
       record {
         turn = ltb-false _ _ (none .0);
         long = eqb-true _ _ (not-false _ (none .1 .0));
         fits = ltb-false _ _ (none .1 .1 .0);
-        range = record {
-          outputs = ltb-false _ _ (range .0);
-          some = ltb-false _ _ (range .1 .0);
-          few = ltb-false _ _ (range .1 .1 .0);
-          gain = ltb-false _ _ (range .1 .1 .1 .0);
-          top = ltb-false _ _ (range .1 .1 .1 .1 .0);
-        };
+        range = none-in-range (b .host) (none .1 .1 .1);
       }
 
   pub ready-accepted : Ready b count room → first (refusals b count room) ≡ Accepted
   ready-accepted r =
-      let range = r .range in
-      none-accepted (refusals b count room)
-      (le-ltb _ _ (r .turn), (ap not (eq-eqb _ _ (r .long)), (le-ltb _ _ (r .fits), (le-ltb _ _ (range .outputs), (le-ltb _ _ (range .some), (le-ltb _ _ (range .few), (le-ltb _ _ (range .gain), (le-ltb _ _ (range .top), tt))))))))
+      none-accepted (refusals b count room) (le-ltb _ _ (r .turn), (ap not (eq-eqb _ _ (r .long)), (le-ltb _ _ (r .fits), in-range-none (b .host) (r .range))))
 
 pub same-outcome : {x y : Answer} {a b : Builder} {f g : List ℕ} → x ≡ y → a ≡ b → f ≡ g → _≡_ {A = Outcome} (record { answer = x; builder = a; frame = f }) (record { answer = y; builder = b; frame = g })
 same-outcome p q r = λ i. record { answer = p i; builder = q i; frame = r i }

@@ -7,19 +7,20 @@ use lib.IntN.{ℤ}
 use lib.ListN.{length, length-append, List·getD-append}
 use lib.Seq.{drop-at}
 use Rattle.host.proofs.BuildCases.{Ready}
-use Rattle.host.proofs.Saying.{length-said, length-head}
-use Rattle.host.proofs.Slots.{length-payload}
+use Rattle.host_turn.proofs.Saying.{length-said, length-head}
+use Rattle.host_samples.proofs.Slots.{length-payload}
 use Rattle.host.proofs.Told.{Says}
-use Rattle.host.proofs.Assigned.{Assigned, built-assigned, assigned-none}
-use Rattle.host.proofs.BitTrip.{c0-address, c0-mox}
-use Rattle.host.proofs.WordTrip.{Held, controlFrom, word-back}
+use Rattle.host_turn.proofs.Assigned.{Assigned, built-assigned, assigned-none}
+use Rattle.host_turn.proofs.BitTrip.{c0-address, c0-mox}
+use Rattle.host_turn.proofs.WordTrip.{Held, controlFrom, word-back}
 use Rattle.host.specs.Build.{frameOf}
-use Rattle.host.specs.Record.{Same}
-use Rattle.host.specs.Samples.{payloadOf, payloadFrom}
-use Rattle.host.specs.Sent.{c0Of, said, headOf}
-use Rattle.host.specs.Words.{controlOf, address, heard}
+use Rattle.host_record.specs.Record.{Same}
+use Rattle.host_samples.specs.Samples.{payloadOf, payloadFrom}
+use Rattle.host_turn.specs.Sent.{c0Of, said, headOf}
+use Rattle.host.specs.Read.{controlOf}
+use Rattle.host_words.specs.Words.{address, heard}
 use Rattle.host.specs.declared.Builder.{Builder}
-use Rattle.host.specs.declared.words.Control.{Control}
+use Rattle.host_words.specs.declared.Control.{Control}
 
 module _ (b : Builder) (audio : List ℤ) where
   pub control-built : controlOf (frameOf b audio) ≡ controlFrom (c0Of (b .turn) (b .host .mox)) (said (b .turn) (b .host))

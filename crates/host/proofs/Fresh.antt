@@ -7,15 +7,15 @@ use borrow.Author.Tests.{ne-eqb}
 use lib.ListN.{length, getD-replicate}
 use Rattle.wire.specs.Fields.{bit, on}
 use Rattle.wire.specs.Numbers.{Bytes}
-use Rattle.host.proofs.Carries.{own-entry}
+use Rattle.host_words.proofs.Carries.{own-entry}
 use Rattle.wire.proofs.Everywhere.{below}
 use Rattle.host.proofs.ReadCases.{Good}
 use Rattle.host.proofs.Told.{Says, Each, each, among, wholly-told}
-use Rattle.host.specs.Read.{Call, reads}
-use Rattle.host.specs.Record.{Same, Seven, fresh}
-use Rattle.host.specs.Words.{lastWord, listedWords, controlOf, address, heard, after}
-use Rattle.host.specs.declared.record.Host.{Host}
-use Rattle.host.specs.declared.words.Control.{Control}
+use Rattle.host.specs.Read.{controlOf, Call, reads}
+use Rattle.host_record.specs.Record.{Same, Seven, fresh}
+use Rattle.host_words.specs.Words.{lastWord, listedWords, address, heard, after}
+use Rattle.host_record.specs.declared.record.Host.{Host}
+use Rattle.host_words.specs.declared.Control.{Control}
 
 -- word w with MOX off and C1 to C4 all zero
 abbrev pub zeroWord : ℕ → Control

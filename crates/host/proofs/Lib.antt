@@ -1,22 +1,9 @@
--- The laws of the host record and its frames, by subject, and the theorems that are signed.
-pub mod Codes
-pub mod LowBits
-pub mod Heard
-pub mod Filling
-pub mod Slots
+-- The laws of host frames read and built, by subject, and the theorems that are signed.
 pub mod ReadCases
-pub mod Carries
-pub mod Sameness
 pub mod Told
 pub mod Fresh
 pub mod Settled
-pub mod Saying
 pub mod BuildCases
-pub mod SampleTrip
-pub mod BitTrip
-pub mod WordTrip
-pub mod Assigned
-pub mod ByteTrip
 pub mod BuiltFrame
 pub mod WhollySent
 pub mod RoundTrip

@@ -13,9 +13,9 @@ use Rattle.wire.specs.Answers.{first, numberOf}
 use Rattle.wire.specs.Sync.{syncAt}
 use Rattle.wire.specs.declared.Answer.{Answer}
 use Rattle.wire.specs.declared.Answer.the-variants.{Accepted}
-use Rattle.host.specs.Read.{refusals, Outcome, refused, accepted, readOf}
-use Rattle.host.specs.Words.{controlOf, unassigned}
-use Rattle.host.specs.declared.record.Host.{Host}
+use Rattle.host.specs.Read.{controlOf, refusals, Outcome, refused, accepted, readOf}
+use Rattle.host_words.specs.Words.{unassigned}
+use Rattle.host_record.specs.declared.record.Host.{Host}
 
 -- a frame that no test refuses
 pub record Good (f : List ℕ) (room : ℕ) : Type 0 where

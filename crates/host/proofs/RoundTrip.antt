@@ -16,23 +16,23 @@ use Rattle.wire.specs.Sync.{syncAt}
 use Rattle.wire.specs.declared.Answer.the-variants.{Accepted}
 use Rattle.host.proofs.BuildCases.{Ready, accepted-ready, ready-accepted, build-answer, build-accepted}
 use Rattle.host.proofs.BuiltFrame.{payload-built, address-built, built-says}
-use Rattle.host.proofs.Carries.{mox-follows, others-kept}
+use Rattle.host_words.proofs.Carries.{mox-follows, others-kept}
 use Rattle.host.proofs.ReadCases.{Good, accepted-good, good-accepted, read-answer, read-accepted}
-use Rattle.host.proofs.SampleTrip.{numbers-back, payload-back}
-use Rattle.host.proofs.Assigned.{assigned}
-use Rattle.host.proofs.BitTrip.{c0-again}
-use Rattle.host.proofs.ByteTrip.{ByteControl, fourBytes, bytes-again}
-use Rattle.host.proofs.WordTrip.{Held}
+use Rattle.host_samples.proofs.SampleTrip.{numbers-back, payload-back}
+use Rattle.host_turn.proofs.Assigned.{assigned}
+use Rattle.host_turn.proofs.BitTrip.{c0-again}
+use Rattle.host_turn.proofs.ByteTrip.{ByteControl, fourBytes, bytes-again}
+use Rattle.host_turn.proofs.WordTrip.{Held}
 use Rattle.host.specs.Build.{buildOf, accepted, frameOf, moved}
-use Rattle.host.specs.Read.{readOf}
-use Rattle.host.specs.Record.{Same, Seven}
-use Rattle.host.specs.Samples.{payloadOf, payloadFrom, number, numbers}
-use Rattle.host.specs.Sent.{InRange, c0Of, said}
-use Rattle.host.specs.Words.{lastWord, listed, controlOf, address, heard, after}
+use Rattle.host.specs.Read.{controlOf, readOf}
+use Rattle.host_record.specs.Record.{Same, Seven}
+use Rattle.host_samples.specs.Samples.{payloadOf, payloadFrom, number, numbers}
+use Rattle.host_turn.specs.Sent.{InRange, c0Of, said}
+use Rattle.host_words.specs.Words.{lastWord, listed, address, heard, after}
 use Rattle.host.specs.declared.Builder.{Builder}
-use Rattle.host.specs.declared.record.Front.{Front}
-use Rattle.host.specs.declared.record.Host.{Host}
-use Rattle.host.specs.declared.words.Control.{Control}
+use Rattle.host_record.specs.declared.record.Front.{Front}
+use Rattle.host_record.specs.declared.record.Host.{Host}
+use Rattle.host_words.specs.declared.Control.{Control}
 use Rattle.host.specs.Read as reading
 
 -- what a reader has of a frame that b built from the numbers sent: g is the record that it lent, out its slice

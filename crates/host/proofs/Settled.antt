@@ -8,7 +8,7 @@ use Rattle.host.specs.Read as reading
 use Rattle.host.specs.declared.Builder.{Builder}
 use Rattle.host.specs.declared.Built.{Built}
 use Rattle.host.specs.declared.Reading.{Reading}
-use Rattle.host.specs.declared.record.Host.{Host}
+use Rattle.host_record.specs.declared.record.Host.{Host}
 use Rattle.wire.proofs.Settled.{settled}
 
 -- two readings of one frame into one record agree in the answer, the address, the record and the whole sample slice

@@ -9,13 +9,13 @@ use lib.Dec.{eqb}
 use lib.ListN.{length}
 use Rattle.wire.proofs.Cases.{by-test}
 use Rattle.wire.specs.Fields.{on}
-use Rattle.host.proofs.Carries.{mox-follows, still-seven, others-kept}
+use Rattle.host_words.proofs.Carries.{mox-follows, still-seven, others-kept}
 use Rattle.host.proofs.ReadCases.{Good, good-accepted, read-accepted}
-use Rattle.host.proofs.Sameness.{same-same, wholly-same}
-use Rattle.host.specs.Read.{Call, reads, readOf}
-use Rattle.host.specs.Record.{Same, Seven}
-use Rattle.host.specs.Words.{lastWord, controlOf, address, after}
-use Rattle.host.specs.declared.record.Host.{Host}
+use Rattle.host_words.proofs.Sameness.{same-same, wholly-same}
+use Rattle.host.specs.Read.{controlOf, Call, reads, readOf}
+use Rattle.host_record.specs.Record.{Same, Seven}
+use Rattle.host_words.specs.Words.{lastWord, address, after}
+use Rattle.host_record.specs.declared.record.Host.{Host}
 
 -- an accepted frame whose word is w, and says of it what h has
 pub record Says (h : Host) (w : ℕ) (x : Call) : Type 0 where

@@ -10,14 +10,14 @@ use Rattle.host.proofs.BuildCases.{Ready, accepted-ready, build-answer,
 use Rattle.host.proofs.BuiltFrame.{built-says}
 use Rattle.wire.proofs.Everywhere.{all-below, below}
 use Rattle.host.proofs.Told.{Says, Each, among, wholly-told}
-use Rattle.host.proofs.WordTrip.{Held}
+use Rattle.host_turn.proofs.WordTrip.{Held}
 use Rattle.host.specs.Build.{buildOf, accepted, frameOf, moved, nextTurn}
 use Rattle.host.specs.Exchange.{Trip, exchange, AllBuilt}
 use Rattle.host.specs.Read.{Call, reads, readOf}
-use Rattle.host.specs.Record.{Seven}
-use Rattle.host.specs.Words.{lastWord}
+use Rattle.host_record.specs.Record.{Seven}
+use Rattle.host_words.specs.Words.{lastWord}
 use Rattle.host.specs.declared.Builder.{Builder}
-use Rattle.host.specs.declared.record.Host.{Host}
+use Rattle.host_record.specs.declared.record.Host.{Host}
 
 -- the turns of n builds in a row
 abbrev turns : ℕ → ℕ → List ℕ

@@ -1,20 +1,19 @@
 -- Document 01, "Words from the host", last paragraph, and "Nine refusals": what a build answers and leaves. Assumes nothing.
 use Prim.Native.Nat.{ℕ, _+_}
 use mathlib.Core.Bool.{cond, not}
-use mathlib.Core.List.{List, [], _∷_, _++_}
+use mathlib.Core.List.{List, _∷_, _++_}
 use lib.Dec.{eqb, ltb}
 use lib.IntN.{ℤ}
 use lib.ListN.{length}
 use Rattle.wire.specs.Answers.{Test, _gives_, first, accepts}
 use Rattle.wire.specs.declared.Answer.{Answer}
-use Rattle.wire.specs.declared.Answer.the-variants.{Accepted, BadState, Length, ShortBuffer, Range}
-use Rattle.host.specs.Record.{fresh}
-use Rattle.host.specs.Samples.{payloadFrom}
-use Rattle.host.specs.Sent.{headOf}
-use Rattle.host.specs.Words.{lastWord}
+use Rattle.wire.specs.declared.Answer.the-variants.{Accepted, BadState, Length, ShortBuffer}
+use Rattle.host_record.specs.Record.{fresh}
+use Rattle.host_samples.specs.Samples.{payloadFrom}
+use Rattle.host_turn.specs.Sent.{headOf, ranges}
+use Rattle.host_words.specs.Words.{lastWord}
 use Rattle.host.specs.declared.Builder.{Builder}
 use Rattle.host.specs.declared.Built.{Built}
-use Rattle.host.specs.declared.record.Host.{Host}
 
 -- "A fresh one is what all-zero words give (one receiver), its turn 0"
 abbrev pub freshBuilder : Builder
@@ -23,16 +22,6 @@ freshBuilder = record { host = fresh; turn = 0 }
 -- T-07: "the turn runs 0 to 10", and document 01: "moves the turn on by one", the last going to 0
 abbrev pub nextTurn : ℕ → ℕ
 nextTurn turn = cond (eqb turn lastWord) 0 (turn + 1)
-
--- "A build tests the whole record, whichever word is due"
-abbrev pub ranges : Host → List Test
-ranges h =
-    ltb 127 (h .outputs) gives Range
-    ∷ ltb (h .receivers) 1 gives Range
-    ∷ ltb 8 (h .receivers) gives Range
-    ∷ ltb 31 (h .front .gain) gives Range
-    ∷ ltb 7 (h .front .c2top) gives Range
-    ∷ []
 
 -- in the order of the table; `room` is the length of the frame, `count` that of the sample slice
 abbrev pub refusals : Builder → ℕ → ℕ → List Test

@@ -8,7 +8,7 @@ use Rattle.wire.specs.declared.Answer.the-variants.{Accepted}
 use Rattle.host.specs.Build.{buildOf}
 use Rattle.host.specs.Read.{readOf}
 use Rattle.host.specs.declared.Builder.{Builder}
-use Rattle.host.specs.declared.record.Host.{Host}
+use Rattle.host_record.specs.declared.record.Host.{Host}
 
 -- one frame's way: the numbers and the frame lent to its build, and the slice lent to its read
 pub record Trip : Type 0 where

@@ -1,18 +1,23 @@
--- Document 01, "Nine refusals" and "Words from the host": what reading a host frame answers and leaves. Assumes nothing.
+-- Document 01, "Frame and slots", "Nine refusals" and "Words from the host": what reading a host frame answers and leaves. Assumes nothing.
 use Prim.Native.Nat.{ℕ}
 use mathlib.Core.Bool.{cond, not}
 use mathlib.Core.List.{List, [], _∷_}
 use lib.Dec.{eqb, ltb}
 use lib.IntN.{ℤ}
-use lib.ListN.{length}
+use lib.ListN.{length, getD}
 use Rattle.wire.specs.Answers.{Test, _gives_, first, accepts}
 use Rattle.wire.specs.Sync.{syncAt}
 use Rattle.wire.specs.declared.Answer.{Answer}
 use Rattle.wire.specs.declared.Answer.the-variants.{Accepted, Length, ShortBuffer, NoSync}
-use Rattle.host.specs.Samples.{payloadOf, numbers}
-use Rattle.host.specs.Words.{controlOf, address, unassigned, after}
+use Rattle.host_samples.specs.Samples.{payloadOf, numbers}
+use Rattle.host_words.specs.Words.{address, unassigned, after}
 use Rattle.host.specs.declared.Reading.{Reading}
-use Rattle.host.specs.declared.record.Host.{Host}
+use Rattle.host_record.specs.declared.record.Host.{Host}
+use Rattle.host_words.specs.declared.Control.{Control}
+
+-- "7F 7F 7F, then C0 to C4"
+abbrev pub controlOf : List ℕ → Control
+controlOf f = record { c0 = getD f 3 0; c1 = getD f 4 0; c2 = getD f 5 0; c3 = getD f 6 0; c4 = getD f 7 0 }
 
 -- in the order of the table; `room` is the length of the sample slice
 abbrev pub refusals : List ℕ → ℕ → List Test

@@ -1,30 +1,28 @@
-// What a host program tells its radio: the host record, and host frames read and built.
+// What a host program tells its radio: host frames, read and built.
 //
 // `read` takes a frame apart into the caller's samples and the next host record. `Builder::build` writes
 // the frame whose word is due, so that a record left unchanged is wholly sent within eleven builds. Both
 // take what they are given: what cannot be read or built is refused by its number, and a refusal
 // changes nothing.
-pub mod record;
-mod samples;
-mod sent;
-mod words;
-
 ghost use mathlib.Core.Path.{_≡_};
 ghost use Prim.Native.Nat.{_≤_};
+ghost use lib.ListN.{length};
 ghost use Rattle.wire.specs.Answers.{first};
-ghost use Rattle.host.specs.Build.{refusals as unfit, gave as built, buildOf, freshBuilder, ranges, nextTurn};
-ghost use Rattle.host.specs.Read.{refusals, gave, readOf};
-ghost use Rattle.host.specs.Words.{lastWord};
-use record::Host;
-use samples::read_slots;
-use samples::write_numbers;
-use sent::put_head;
+ghost use Rattle.host.specs.Build.{refusals as unfit, gave as built, buildOf, freshBuilder, nextTurn};
+ghost use Rattle.host.specs.Read.{controlOf, refusals, gave, readOf};
+ghost use Rattle.host_words.specs.Words.{lastWord};
+use host_record::record::Host;
+use host_samples::read_slots;
+use host_samples::write_numbers;
+use host_turn::LAST_WORD;
+use host_turn::out_of_range;
+use host_turn::put_head;
+use host_words::Control;
+use host_words::next;
+use host_words::reserved;
 use wire::Answer;
 use wire::number;
 use wire::sync::sync_at;
-use words::control_of;
-use words::next;
-use words::reserved;
 
 // The address of the word that came, and the record after it.
 pub struct Reading {
@@ -71,8 +69,18 @@ pub(crate) fn refusal(frame: &[u8], room: usize) -> Answer
     }
 }
 
-// The last of the listed words, after which the turn is 0 again.
-const LAST_WORD: u8 = 10;
+pub(crate) fn control_of(frame: &[u8]) -> Control
+    requires { ⌜ 8 ≤ length (now frame) ⌝ }
+    ensures { λ r. ⌜ r ≡ controlOf (now (frame .entry)) ⌝ }
+{
+    Control {
+        c0: frame[3],
+        c1: frame[4],
+        c2: frame[5],
+        c3: frame[6],
+        c4: frame[7],
+    }
+}
 
 // A host record and the word that is due, 0 to 10.
 pub struct Builder {
@@ -134,32 +142,6 @@ impl Builder {
         }
         out_of_range(self.host)
     }
-}
-
-pub(crate) fn out_of_range(host: Host) -> Answer
-    ensures { λ r. ⌜ r ≡ first (ranges host) ⌝ }
-{
-    let outputs = host.outputs;
-    let receivers = host.receivers;
-    let front = host.front;
-    let gain = front.gain;
-    let top = front.c2top;
-    if 127 < outputs {
-        return Answer::Range;
-    }
-    if receivers < 1 {
-        return Answer::Range;
-    }
-    if 8 < receivers {
-        return Answer::Range;
-    }
-    if 31 < gain {
-        return Answer::Range;
-    }
-    if 7 < top {
-        return Answer::Range;
-    }
-    Answer::Accepted
 }
 
 pub(crate) fn turn_after(turn: u8) -> u8

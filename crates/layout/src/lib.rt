@@ -19,43 +19,51 @@ pub enum Layout {
     BadCount,
 }
 
-const ROWS: [Row; 8] = [
-    Row {
+// A row as the table has it. Its numbers are small, and so is the table, which the compiler lays on the stack
+// wherever a row is looked up.
+struct Entry {
+    slot: u8,
+    slots: u8,
+    padding: u8,
+}
+
+const ROWS: [Entry; 8] = [
+    Entry {
         slot: 8,
         slots: 63,
         padding: 0,
     },
-    Row {
+    Entry {
         slot: 14,
         slots: 36,
         padding: 0,
     },
-    Row {
+    Entry {
         slot: 20,
         slots: 25,
         padding: 4,
     },
-    Row {
+    Entry {
         slot: 26,
         slots: 19,
         padding: 10,
     },
-    Row {
+    Entry {
         slot: 32,
         slots: 15,
         padding: 24,
     },
-    Row {
+    Entry {
         slot: 38,
         slots: 13,
         padding: 10,
     },
-    Row {
+    Entry {
         slot: 44,
         slots: 11,
         padding: 20,
     },
-    Row {
+    Entry {
         slot: 50,
         slots: 10,
         padding: 4,
@@ -71,5 +79,10 @@ pub fn row_of(receivers: usize) -> Layout
     if 8 < receivers {
         return Layout::BadCount;
     }
-    Layout::Of(ROWS[receivers - 1])
+    let entry = ROWS[receivers - 1];
+    Layout::Of(Row {
+        slot: entry.slot as usize,
+        slots: entry.slots as usize,
+        padding: entry.padding as usize,
+    })
 }

@@ -11,13 +11,13 @@ use Rattle.wire.specs.Sync.{syncAt}
 use Rattle.wire.specs.Every.{allZero}
 use Rattle.wire.specs.declared.Answer.the-variants.{Accepted, NoSync}
 use Rattle.layout.specs.Slots.{slots, padding}
+use Rattle.radio_status.specs.Record.{freshStatus}
+use Rattle.radio_status.specs.Words.{address, dotOf, dashOf, pttOf, applied}
+use Rattle.radio_status.specs.declared.record.Status.{Status}
+use Rattle.radio_status.specs.declared.words.Word.{Word}
+use Rattle.radio_status.specs.declared.words.Word.the-variants.{Input, Forward, Reverse, Supply, Board, Unlisted}
 use Rattle.radio.specs.Read.{byte, word, padded, answerOf}
-use Rattle.radio.specs.Record.{freshStatus}
-use Rattle.radio.specs.Words.{address, dotOf, dashOf, pttOf, applied}
 use Rattle.radio.specs.declared.Reading.{Reading}
-use Rattle.radio.specs.declared.record.Status.{Status}
-use Rattle.radio.specs.declared.words.Word.{Word}
-use Rattle.radio.specs.declared.words.Word.the-variants.{Input, Forward, Reverse, Supply, Board, Unlisted}
 use Rattle.radio.proofs.Cases.{no-sync, all-good, answer-counted, read-taken, read-refused}
 use Rattle.hexline.specs.Lines.{aFrame}
 use Rattle.hexline.specs.Printed.{textOf}

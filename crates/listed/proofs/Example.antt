@@ -3,8 +3,8 @@ use mathlib.Core.Path.{_≡_, refl, ap, _∙_}
 use mathlib.Core.List.{List, [], _∷_, _++_, map}
 use Prim.Native.Nat.{ℕ, _+_}
 use Rattle.layout.specs.Slots.{slots, padding}
+use Rattle.radio_status.specs.Words.{applied}
 use Rattle.radio.specs.Read.{answerOf, readOf}
-use Rattle.radio.specs.Words.{applied}
 use Rattle.hexline.specs.Lines.{Content, contentOf, lines, numbered}
 use Rattle.hexline.specs.Printed.{decimalIn, decimalOf, textOf}
 use Rattle.hexline.proofs.Example.{text, frameFrom, three-lines}

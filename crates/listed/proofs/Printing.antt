@@ -12,11 +12,11 @@ use lib.ListN.{length, take, drop, replicate, take-append-drop, length-append, l
 use lib.Seq.{take-all, drop-drop, drop-length, length-take-le}
 use Rattle.wire.proofs.Cases.{by-order}
 use Rattle.layout.specs.Slots.{slots}
+use Rattle.radio_status.specs.Record.{freshStatus}
+use Rattle.radio_status.specs.Words.{address}
+use Rattle.radio_status.specs.declared.record.Status.{Status}
 use Rattle.radio.specs.Read.{byte, readOf, gave as read}
-use Rattle.radio.specs.Record.{freshStatus}
-use Rattle.radio.specs.Words.{address}
 use Rattle.radio.specs.declared.Reading.{Reading}
-use Rattle.radio.specs.declared.record.Status.{Status}
 use Rattle.hexline.specs.Lines.{Found, aFrame}
 use Rattle.hexline.specs.Printed.{Written, gave, rowOf}
 use Rattle.hexline.specs.Text.{lineIn, foundBy}

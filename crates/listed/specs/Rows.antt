@@ -7,9 +7,9 @@ use lib.IntN.{pos}
 use lib.ListN.{length, take, drop, replicate}
 use Rattle.wire.specs.declared.Answer.the-variants.{Length}
 use Rattle.layout.specs.Slots.{values, slots}
+use Rattle.radio_status.specs.Record.{freshStatus}
+use Rattle.radio_status.specs.Words.{address}
 use Rattle.radio.specs.Read.{byte, readOf}
-use Rattle.radio.specs.Record.{freshStatus}
-use Rattle.radio.specs.Words.{address}
 use Rattle.radio.specs.declared.Reading.{Reading}
 use Rattle.hexline.specs.Lines.{Content, aFrame, noFrame, Found, lines, numbered}
 use Rattle.hexline.specs.Printed.{Written, gave, written, textOf}

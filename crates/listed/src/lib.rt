@@ -6,7 +6,7 @@
 use hexline::Line;
 use hexline::Taken;
 use hexline::print;
-use radio::record::Status;
+use radio_status::record::Status;
 use wire::Answer;
 ghost use mathlib.Core.Path.{_≡_};
 ghost use Rattle.hexline.specs.Lines.{aFrame};

@@ -21,8 +21,8 @@ use denote.Memory.{pointee}
 use denote.Builtin.{u8, i16, i32}
 use denote.Ref.{RefT}
 use denote.Slice.{sliceVal, sliceTy, Room}
-use Rattle.radio.specs.declared.record.Status.{Status}
-use Rattle.radio.proofs.record.Status as S
+use Rattle.radio_status.specs.declared.record.Status.{Status}
+use Rattle.radio_status.proofs.record.Status as S
 use Rattle.radio.proofs.Locals.{Local, block, cells}
 
 -- the lending of the slice in local i again, by way of local j, to local k

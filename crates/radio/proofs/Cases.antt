@@ -6,7 +6,7 @@ use Prim.Native.Nat.{ℕ, _<_, _≤_}
 use borrow.Author.Tests.{eq-eqb, ne-eqb, lt-ltb, le-ltb, eqb-true, ltb-false, not-false}
 use lib.Dec.{ltb}
 use lib.IntN.{ℤ}
-use lib.ListN.{length}
+use lib.ListN.{length, length-drop}
 use Rattle.wire.specs.Answers.{accepts, inOrder}
 use Rattle.wire.specs.Sync.{syncAt}
 use Rattle.wire.specs.declared.Answer.{Answer}
@@ -14,9 +14,11 @@ use Rattle.wire.specs.declared.Answer.the-variants.{Accepted, BadCount, Length,
 use Rattle.wire.proofs.Cases.{by-test, neither}
 use Rattle.wire.proofs.First.{accepted-none, accepts-only}
 use Rattle.layout.specs.Slots.{counted, slots, values}
-use Rattle.radio.specs.Read.{tests, frameAnswer, padded, answerOf, taken, refused, gave, readOf}
+use Rattle.radio_status.specs.declared.record.Status.{Status}
+use Rattle.radio_samples.specs.Samples.{samplesRead}
+use Rattle.radio_samples.proofs.Roomy.{all-there, all-read}
+use Rattle.radio.specs.Read.{payload, tests, frameAnswer, padded, answerOf, taken, refused, gave, readOf}
 use Rattle.radio.specs.declared.Reading.{Reading}
-use Rattle.radio.specs.declared.record.Status.{Status}
 
 -- the refusals of `read` stand in the order of the nine
 pub read-in-order : (frame : List ℕ) (n iq mic : ℕ) → inOrder (tests frame n iq mic) ≡ true
@@ -93,6 +95,13 @@ module _ (frame : List ℕ) (n : ℕ) (iq mic : List ℤ) (s : Status) where
   -- an accepted read gives what its parts were each shown to be
   pub read-gives : answerOf frame n (length iq) (length mic) ≡ Accepted → (r : Reading) (iq′ mic′ : List ℤ) → r ≡ taken frame n iq mic s .reading → iq′ ≡ taken frame n iq mic s .iq → mic′ ≡ taken frame n iq mic s .mic → gave r iq′ mic′ ≡ readOf frame n iq mic s
   read-gives is r iq′ mic′ reading-is iq-is mic-is = (λ i. gave (reading-is i) (iq-is i) (mic-is i)) ∙ sym (read-taken is)
+
+  -- an accepted frame has all its samples, and there is room for them
+  pub samples-taken : answerOf frame n (length iq) (length mic) ≡ Accepted → samplesRead n (payload frame) iq mic ≡ (taken frame n iq mic s .iq, taken frame n iq mic s .mic)
+  samples-taken is =
+      let passed = good frame n (length iq) (length mic) is in
+      let whole : length (payload frame) ≡ 504 = rw (length-drop 8 frame, passed .long) in
+      all-read n (payload frame) iq mic (all-there n (length iq) (length mic) (length (payload frame)) 504 (passed .is-counted) (passed .iq-room) (passed .mic-room) whole)
 
   pub read-accepted : readOf frame n iq mic s .reading .answer ≡ Accepted → answerOf frame n (length iq) (length mic) ≡ Accepted
   read-accepted is =

@@ -12,11 +12,14 @@ use Rattle.wire.specs.Lists.{tabs}
 use Rattle.wire.specs.Sync.{syncAt}
 use Rattle.wire.proofs.Everywhere.{zeros}
 use Rattle.layout.specs.Slots.{slots, padding}
+use Rattle.radio_status.specs.Words.{address, wordAt}
+use Rattle.radio_status.specs.Control.{keyByte, wordBytes, header}
+use Rattle.radio_status.specs.declared.record.Status.{Status}
+use Rattle.radio_status.proofs.HeaderCases.{word-long}
+use Rattle.radio_samples.specs.Fill.{slotBytes}
 use Rattle.radio.specs.Read.{byte, payload, word, padded}
-use Rattle.radio.specs.Words.{address, wordAt}
-use Rattle.radio.specs.Write.{keyByte, wordBytes, header, slotBytes, frameOf}
-use Rattle.radio.specs.declared.record.Status.{Status}
-use Rattle.radio.proofs.FrameLaid.{word-long, before-padding}
+use Rattle.radio.specs.Write.{frameOf}
+use Rattle.radio.proofs.FrameLaid.{before-padding}
 
 module _ (s : Status) (w n : ℕ) (iq mic : List ℤ) where
   pub frame-sync : syncAt (frameOf s w n iq mic) 0 ≡ true

@@ -7,11 +7,11 @@ use native.Mathlib.Omega.{arith}
 use lib.IntN.{ℤ}
 use lib.ListN.{length}
 use Rattle.wire.specs.declared.Answer.the-variants.{Accepted}
+use Rattle.radio_status.specs.Record.{freshStatus}
+use Rattle.radio_status.specs.Words.{wordOf, applied}
+use Rattle.radio_status.specs.declared.record.Status.{Status}
 use Rattle.radio.specs.Read.{byte, after, answerOf, readOf}
 use Rattle.radio.proofs.Cases.{read-taken}
-use Rattle.radio.specs.Record.{freshStatus}
-use Rattle.radio.specs.Words.{wordOf, applied}
-use Rattle.radio.specs.declared.record.Status.{Status}
 
 -- word w, all zero; the address stands above bit 2 of C0
 pub record ZeroWord (w : ℕ) (frame : List ℕ) : Type 0 where

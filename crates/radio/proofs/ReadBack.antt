@@ -9,18 +9,20 @@ use Rattle.wire.specs.declared.Answer.the-variants.{Accepted}
 use Rattle.layout.specs.Slots.{slots, values, padding}
 use Rattle.layout.proofs.Lookup.{range}
 use Rattle.wire.specs.Numbers.{Samples16}
+use Rattle.radio_status.specs.RoundTrip.{wordFrom, withKeys, Held}
+use Rattle.radio_status.specs.Words.{applied, carried, keyed, wordAt}
+use Rattle.radio_status.specs.Control.{wordBytes}
+use Rattle.radio_status.specs.declared.record.Status.{Status}
+use Rattle.radio_status.proofs.WordsBack.{address-back, keys-back, word-back}
+use Rattle.radio_status.proofs.HeaderCases.{versioned}
+use Rattle.radio_samples.specs.Samples.{iqAt, micAt}
+use Rattle.radio_samples.proofs.SamplesBack.{all-iq-back, all-mic-back}
 use Rattle.radio.specs.Read.{answerOf, after, payload, word}
-use Rattle.radio.specs.RoundTrip.{wordFrom, withKeys, Held}
-use Rattle.radio.specs.Samples.{iqAt, micAt}
-use Rattle.radio.specs.Words.{applied, carried, keyed, wordAt}
-use Rattle.radio.specs.Write.{keyByte, wordBytes, frameOf}
-use Rattle.radio.specs.declared.record.Status.{Status}
+use Rattle.radio.specs.Write.{frameOf}
 use Rattle.radio.proofs.Cases.{answer-counted, all-good}
 use Rattle.radio.proofs.FrameLaid.{frame-long}
 use Rattle.radio.proofs.FrameParts.{frame-sync, frame-key, frame-word, frame-payload, frame-padded}
-use Rattle.radio.proofs.SamplesBack.{all-iq-back, all-mic-back}
-use Rattle.radio.proofs.WordsBack.{address-back, dot-back, dash-back, ptt-back, word-back}
-use Rattle.radio.proofs.WriteCases.{Good, versioned}
+use Rattle.radio.proofs.WriteCases.{Good}
 
 module _ (s : Status) (w n : ℕ) (iq mic : List ℤ) (lent : ℕ) (wrote : Good s w n iq (length mic) lent) where
   pub answer-back : (iq′ mic′ : ℕ) → values n ≤ iq′ → slots n ≤ mic′ → answerOf (frameOf s w n iq mic) n iq′ mic′ ≡ Accepted
@@ -34,25 +36,11 @@ module _ (s : Status) (w n : ℕ) (iq mic : List ℤ) (lent : ℕ) (wrote : Good
       ∙ ap (λ a. wordAt a (getD (wordBytes s w) 0 0) (getD (wordBytes s w) 1 0) (getD (wordBytes s w) 2 0) (getD (wordBytes s w) 3 0)) (address-back s w (wrote .listed))
       ∙ word-back s held (versioned (s .versions) (wrote .versions-fit)) w (wrote .listed)
 
-  keys-again : (into : Status) → keyed (keyByte s w) into ≡ withKeys s into
-  keys-again into =
-      λ i. record {
-        dot = dot-back s w (wrote .listed) i;
-        dash = dash-back s w (wrote .listed) i;
-        ptt = ptt-back s w (wrote .listed) i;
-        overflow = into .overflow;
-        inputs = into .inputs;
-        forward = into .forward;
-        reverse = into .reverse;
-        supply = into .supply;
-        versions = into .versions;
-      }
-
   pub record-again : Held s → (into : Status) → after (frameOf s w n iq mic) into ≡ carried (wordFrom s w) (withKeys s into)
   unfolding applied
   record-again held into =
       ap (λ k. carried (word (frameOf s w n iq mic)) (keyed k into)) (frame-key s w n iq mic)
-      ∙ ap (carried (word (frameOf s w n iq mic))) (keys-again into)
+      ∙ ap (carried (word (frameOf s w n iq mic))) (keys-back s w (wrote .listed) into)
       ∙ ap (λ x. carried x (withKeys s into)) (word-again held)
 
   pub iq-again : (iq′ : List ℤ) → over (values n) (iqAt n (payload (frameOf s w n iq mic))) iq′ ≡ take (values n) iq ++ drop (values n) iq′

@@ -13,11 +13,12 @@ use Rattle.wire.specs.declared.Answer.the-variants.{Accepted}
 use Rattle.layout.specs.Slots.{slots, values}
 use Rattle.wire.specs.Fields.{bit}
 use Rattle.wire.specs.Numbers.{Bytes, Samples16}
+use Rattle.radio_status.specs.RoundTrip.{wordFrom, withKeys, Held}
+use Rattle.radio_status.specs.Words.{address, carried}
+use Rattle.radio_status.specs.Control.{versionsFit}
+use Rattle.radio_status.specs.declared.record.Status.{Status}
 use Rattle.radio.specs.Read.{byte, readOf, gave}
-use Rattle.radio.specs.RoundTrip.{wordFrom, withKeys, Held}
-use Rattle.radio.specs.Words.{address, carried}
-use Rattle.radio.specs.Write.{versionsFit, frameOf, writeOf, gave as wrote}
-use Rattle.radio.specs.declared.record.Status.{Status}
+use Rattle.radio.specs.Write.{frameOf, writeOf, gave as wrote}
 use Rattle.radio.proofs.Cases.{good, read-accepted, read-taken, read-gives}
 use Rattle.radio.proofs.ReadBack.{answer-back, word-again, record-again, iq-again, mic-again}
 use Rattle.radio.proofs.WriteBack.{write-answer-again, frame-again}

@@ -9,9 +9,9 @@ use Rattle.radio.specs.Read.{readOf, gave, left}
 use Rattle.radio.specs.Export.{shown, numbered}
 use Rattle.radio.specs.Write.{writeOf, gave as wrote}
 use Rattle.wire.specs.declared.Answer.{Answer}
+use Rattle.radio_status.specs.declared.record.Status.{Status}
 use Rattle.radio.specs.declared.Reading.{Reading}
 use Rattle.radio.specs.declared.Updated.{Updated}
-use Rattle.radio.specs.declared.record.Status.{Status}
 use Rattle.wire.proofs.Settled.{settled}
 
 module _ (frame : List ℕ) (n : ℕ) (iq mic : List ℤ) (s : Status) where

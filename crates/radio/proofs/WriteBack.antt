@@ -18,14 +18,16 @@ use Rattle.wire.proofs.Everywhere.{zeros-are}
 use Rattle.wire.proofs.Lists.{tab-getD, length-over}
 use Rattle.layout.specs.Slots.{slot, slots, padding, values}
 use Rattle.layout.proofs.Places.{whole-payload}
+use Rattle.radio_status.specs.Words.{address, applied}
+use Rattle.radio_status.specs.Control.{wordBytes, header, versionsFit}
+use Rattle.radio_status.specs.declared.record.Status.{Status}
+use Rattle.radio_status.proofs.WordsAgain.{word-bytes-again, versions-again, key-again}
+use Rattle.radio_samples.specs.Samples.{iqAt, micAt}
+use Rattle.radio_samples.specs.Fill.{slotBytes}
+use Rattle.radio_samples.proofs.SlotsAgain.{slots-again, samples-fit}
 use Rattle.radio.specs.Read.{byte, payload, word, after}
-use Rattle.radio.specs.Samples.{iqAt, micAt}
-use Rattle.radio.specs.Words.{address, applied}
-use Rattle.radio.specs.Write.{answerOf, wordBytes, header, slotBytes, frameOf, versionsFit}
-use Rattle.radio.specs.declared.record.Status.{Status}
+use Rattle.radio.specs.Write.{answerOf, frameOf}
 use Rattle.radio.proofs.Cases.{Good}
-use Rattle.radio.proofs.SlotsAgain.{slots-again, samples-fit}
-use Rattle.radio.proofs.WordsAgain.{word-bytes-again, versions-again, key-again}
 use Rattle.radio.proofs.WriteCases.{answer-counted, all-good, range-good}
 
 module _ (f : List ℕ) (n : ℕ) (iq mic : List ℤ) (s : Status) (small : Bytes f) (read : Good f n (length iq) (length mic)) where

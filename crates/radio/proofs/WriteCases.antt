@@ -14,16 +14,9 @@ use Rattle.wire.specs.declared.Answer.the-variants.{Accepted, BadCount, Length,
 use Rattle.wire.proofs.Cases.{both-true, neither}
 use Rattle.wire.proofs.First.{accepted-none}
 use Rattle.layout.specs.Slots.{counted, slots, values}
-use Rattle.radio.specs.Write.{tests, laterAnswer, answerOf, inRange, versionsFit, Versioned, frameOf, gave, writeOf}
-use Rattle.radio.specs.declared.record.Versions.{Versions}
-use Rattle.radio.specs.declared.record.Status.{Status}
-
-pub versioned : (v : Versions) → versionsFit v ≡ true → Versioned v
-versioned v fit =
-    let last = both-true (leb (v .board1) 127 && leb (v .board2) 127 && leb (v .board3) 127) (leb (v .board4) 127) fit in
-    let third = both-true (leb (v .board1) 127 && leb (v .board2) 127) (leb (v .board3) 127) (last .0) in
-    let two = both-true (leb (v .board1) 127) (leb (v .board2) 127) (third .0) in
-    record { first = leb-true _ 127 (two .0); second = leb-true _ 127 (two .1); third = leb-true _ 127 (third .1); fourth = leb-true _ 127 (last .1) }
+use Rattle.radio_status.specs.Control.{versionsFit}
+use Rattle.radio_status.specs.declared.record.Status.{Status}
+use Rattle.radio.specs.Write.{tests, laterAnswer, answerOf, inRange, frameOf, gave, writeOf}
 
 module _ (s : Status) (w n : ℕ) (iq : List ℤ) where
   pub bad-sample : allFit (take (values n) iq) ≡ false → inRange s w n iq ≡ false

@@ -3,8 +3,8 @@ use Prim.Native.Nat.{ℕ}
 use mathlib.Core.List.{List}
 use lib.IntN.{ℤ}
 use Rattle.wire.specs.Answers.{numberOf}
+use Rattle.radio_status.specs.declared.record.Status.{Status}
 use Rattle.radio.specs.Read.{Outcome}
-use Rattle.radio.specs.declared.record.Status.{Status}
 
 -- the number, and the lent record and slices at exit
 pub record Shown : Type 0 where

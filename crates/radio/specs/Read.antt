@@ -12,13 +12,13 @@ use Rattle.wire.specs.Every.{allZero}
 use Rattle.wire.specs.declared.Answer.{Answer}
 use Rattle.wire.specs.declared.Answer.the-variants.{Accepted, BadCount, Length, ShortBuffer, NoSync, Padding}
 use Rattle.layout.specs.Slots.{counted, slots, padding, values}
-use Rattle.radio.specs.Samples.{iqAt, micAt}
-use Rattle.radio.specs.Words.{wordOf, applied}
+use Rattle.radio_status.specs.Words.{wordOf, applied}
+use Rattle.radio_status.specs.declared.record.Status.{Status}
+use Rattle.radio_status.specs.declared.words.Word.{Word}
+use Rattle.radio_status.specs.declared.words.Word.the-variants.{Unlisted}
+use Rattle.radio_samples.specs.Samples.{iqAt, micAt}
 use Rattle.radio.specs.declared.Reading.{Reading}
 use Rattle.radio.specs.declared.Updated.{Updated}
-use Rattle.radio.specs.declared.record.Status.{Status}
-use Rattle.radio.specs.declared.words.Word.{Word}
-use Rattle.radio.specs.declared.words.Word.the-variants.{Unlisted}
 
 -- "7F 7F 7F, then C0 to C4, then 504 bytes of payload"
 abbrev pub byte : List ℕ → ℕ → ℕ

@@ -1,7 +1,7 @@
 // `update` as C and Rust call it, under a plain name. The record and the structs in it are `#[repr(C)]`, so
 // that a caller declares them again.
 use crate::Updated;
-use crate::record::Status;
+use radio_status::record::Status;
 ghost use mathlib.Core.Path.{_≡_};
 ghost use Rattle.wire.specs.Answers.{numberOf};
 ghost use Rattle.radio.specs.Read.{readOf};

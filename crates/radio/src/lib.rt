@@ -5,28 +5,24 @@
 // record of any kind. It answers one of its refusals and leaves all as it was, or does its work. A read
 // gives every sample of the frame, says which word came, and hands back the record with that word's fields
 // in it; a write settles every byte of the frame.
-mod control;
 mod export;
-mod fill;
-pub mod record;
-mod samples;
-pub mod words;
 
-use crate::record::Status;
-use crate::record::Versions;
-use crate::words::Word;
 use layout::Layout;
 use layout::Row;
+use radio_status::record::Status;
+use radio_status::words::Word;
 use wire::Answer;
 ghost use mathlib.Core.Path.{_≡_};
 ghost use Prim.Native.Nat.{_≤_};
 ghost use lib.ListN.{length};
 ghost use Rattle.wire.specs.declared.Answer.the-variants.{Accepted};
-ghost use Rattle.layout.specs.Slots.{rowOf, values, slots};
+ghost use Rattle.layout.specs.Slots.{rowOf};
+ghost use Rattle.radio_status.specs.Control.{headerOver};
+ghost use Rattle.radio_status.specs.Words.{applied};
+ghost use Rattle.radio_status.specs.declared.words.Word.the-variants.{Unlisted};
+ghost use Rattle.radio_samples.specs.Fill.{samplesOver};
 ghost use Rattle.radio.specs.Read.{readOf, gave, left, frameAnswer, byte, word};
-ghost use Rattle.radio.specs.Write.{writeOf, gave as wrote, frameOf, laterAnswer, versionsFit, Versioned};
-ghost use Rattle.radio.specs.Words.{applied};
-ghost use Rattle.radio.specs.declared.words.Word.the-variants.{Unlisted};
+ghost use Rattle.radio.specs.Write.{writeOf, gave as wrote, laterAnswer};
 
 // What a read gives: the answer, the word that came, and the record after it. Refused, the word is
 // unlisted 0 and the record is the one given.
@@ -55,8 +51,10 @@ pub fn read(
     if wire::number(answer) != 0 {
         return refused(answer, status);
     }
-    samples::read_samples(&frame[8..], receivers, row, iq, mic);
-    accepted(frame, status)
+    // told before the samples are read: a record that is held across their loops makes them slower
+    let reading = accepted(frame, status);
+    radio_samples::read_samples(&frame[8..], receivers, iq, mic);
+    reading
 }
 
 // What an update gives beside the record: the answer and the word, as a read gives them.
@@ -98,11 +96,11 @@ pub(crate) fn accepted(frame: &[u8], status: Status) -> Reading
     requires { ⌜ 8 ≤ length (now frame) ⌝ }
     ensures { λ r. ⌜ r ≡ record { answer = Accepted; word = word (now (frame .entry)); status = applied (byte (now (frame .entry)) 3) (word (now (frame .entry))) status } ⌝ }
 {
-    let word = words::decode(frame[3], frame[4], frame[5], frame[6], frame[7]);
+    let word = radio_status::words::decode(frame[3], frame[4], frame[5], frame[6], frame[7]);
     Reading {
         answer: Answer::Accepted,
         word,
-        status: words::apply(status, frame[3], word),
+        status: radio_status::words::apply(status, frame[3], word),
     }
 }
 
@@ -153,26 +151,23 @@ pub fn write(
     if wire::number(answer) != 0 {
         return answer;
     }
-    write_frame(status, word as u8, receivers, row, iq, mic, frame);
+    write_frame(status, word as u8, receivers, iq, mic, frame);
     Answer::Accepted
 }
 
-// A frame that no test refuses: its header, its slots and its padding, one after another.
-pub(crate) fn write_frame(
+// The header of a frame, and then its samples and its padding.
+fn write_frame(
     status: Status,
     word: u8,
     receivers: usize,
-    row: Row,
     iq: &[i32],
     mic: &[i16],
     frame: &mut [u8],
 )
-    requires { ⌜ (word ≤ 4) × Versioned (status .versions) × (row ≡ rowOf receivers) × (values receivers ≤ length (now iq)) × (slots receivers ≤ length (now mic)) × (length (now frame) ≡ 512) ⌝ }
-    ensures { λ r. ⌜ now (frame .exit) ≡ frameOf status word receivers (now (iq .entry)) (now (mic .entry)) ⌝ }
+    ensures { λ r. ⌜ now (frame .exit) ≡ samplesOver receivers (now (iq .entry)) (now (mic .entry)) (headerOver status word (now (frame .entry))) ⌝ }
 {
-    control::write_header(status, word, frame);
-    fill::write_slots(iq, mic, receivers, row, frame);
-    fill::clear(frame, 512 - row.padding);
+    radio_status::control::write_header(status, word, frame);
+    radio_samples::write_samples(iq, mic, receivers, frame);
 }
 
 // The first test of a write that holds, once the receiver count has its row. The whole record is
@@ -204,26 +199,11 @@ pub(crate) fn write_refusal(
     if !wire::numbers::all_fit24(&iq[..needed]) {
         return Answer::Range;
     }
-    if !versions_fit(versions) {
+    if !radio_status::control::versions_fit(versions) {
         return Answer::Range;
     }
     if 4 < word {
         return Answer::Range;
     }
     Answer::Accepted
-}
-
-fn versions_fit(versions: Versions) -> bool
-    ensures { λ r. ⌜ r ≡ versionsFit versions ⌝ }
-{
-    if 127 < versions.board1 {
-        return false;
-    }
-    if 127 < versions.board2 {
-        return false;
-    }
-    if 127 < versions.board3 {
-        return false;
-    }
-    versions.board4 <= 127
 }

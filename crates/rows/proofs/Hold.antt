@@ -1,10 +1,10 @@
 -- Rows a to l of document 01 hold: one claim over the list, which is computed. Assumes nothing.
 use mathlib.Core.Path.{refl}
+use Rattle.radio_status.specs.Words.{applied}
 use Rattle.radio.specs.Read as radio
-use Rattle.radio.specs.Words.{applied}
 use Rattle.layout.specs.Slots.{slots, padding}
 use Rattle.host.specs.Read as host
-use Rattle.host.specs.Words.{heard}
+use Rattle.host_words.specs.Words.{heard}
 use Rattle.stream.specs.Feed.{feedOf}
 use Rattle.stream.specs.Reading.{reading}
 use Rattle.stream.specs.Record.{soundOf}

@@ -8,12 +8,12 @@ use lib.IntN.{pos, negsuc}
 use lib.ListN.{getD, replicate}
 use Rattle.wire.specs.Answers.{numberOf}
 use Rattle.wire.specs.Numbers.{be, signed}
+use Rattle.radio_status.specs.Record.{freshStatus}
+use Rattle.radio_status.specs.Words.{address}
 use Rattle.radio.specs.Read as radio
-use Rattle.radio.specs.Record.{freshStatus}
-use Rattle.radio.specs.Words.{address}
 use Rattle.host.specs.Read as host
-use Rattle.host.specs.Record.{fresh}
-use Rattle.host.specs.declared.record.Relay.{Relay}
+use Rattle.host_record.specs.Record.{fresh}
+use Rattle.host_record.specs.declared.choices.Relay.{Relay}
 use Rattle.stream.specs.Feed as stream
 use Rattle.stream.specs.Record.{freshOf}
 

@@ -8,10 +8,11 @@ use Rattle.wire.specs.Answers.{first, numberOf}
 use Rattle.wire.specs.declared.Answer.the-variants.{Accepted}
 use Rattle.wire.proofs.First.{only-accepted}
 use Rattle.host.proofs.ReadCases.{Good, accepted-good, same-outcome, read-refused, read-accepted}
-use Rattle.host.proofs.Slots.{payload-part}
+use Rattle.host_samples.proofs.Slots.{payload-part}
+use Rattle.host_samples.proofs.Lengths.{is-whole, all-read}
 use Rattle.host.specs.Read.{refusals}
-use Rattle.host.specs.Samples.{numbers}
-use Rattle.host.specs.Words.{after, address}
+use Rattle.host_samples.specs.Samples.{slotsRead}
+use Rattle.host_words.specs.Words.{after, address}
 use Rattle.host.proofs.read.Statement.{statement}
 use Rattle.host.proofs.read.Tie as tie
 
@@ -45,10 +46,7 @@ part-read-slots-end : tie.Need-part-read-slots-end
 part-read-slots-end c = search needs
 
 read-slots-requires : tie.Need-read-slots-requires
-read-slots-requires c κs =
-    let g = good (c .before .before) in
-    let f = now (c .before .before .before .before .before .before .args .frame) in
-    (rw (payload-part f, length-drop 8 f, g .long), g .fits)
+read-slots-requires c κs = search needs
 
 control-of-requires : tie.Need-control-of-requires
 control-of-requires c κs = let g = good (c .before .before .before .before) in omega arith
@@ -65,11 +63,12 @@ returns-2 c =
     let read = c .before .before .before .before in
     let accepted = read .before .before .before in
     let given = accepted .before .before .before .before .args in
+    let g = good accepted in
     same-outcome
     (tested (accepted .before .before) ∙ passed accepted)
     (ap address word)
     (c .next .ensures ∙ ap (λ w. after w (given .host)) word)
-    (read .read-slots .ensures ∙ ap (λ p. numbers p (now (given .audio))) (payload-part (now (given .frame))))
+    (read .read-slots .ensures ∙ ap (λ p. slotsRead p (now (given .audio))) (payload-part (now (given .frame))) ∙ all-read _ _ (is-whole _ _ (rw (length-drop 8 (now (given .frame)), g .long)) (g .fits)))
     ∙ sym (read-accepted _ _ _ (passed accepted))
 
 pub read-spec : {M : Type 1} → statement M

@@ -3,7 +3,7 @@ use mathlib.Core.Path.{sym, ap, _∙_}
 use borrow.Author.Needs.{needs}
 use borrow.Author.Tests.{eq-eqb, ne-eqb, lt-ltb, le-ltb}
 use Rattle.wire.specs.Answers.{first}
-use Rattle.host.specs.Words.{unassigned}
+use Rattle.host_words.specs.Words.{unassigned}
 use Rattle.host.proofs.refusal.Statement.{statement}
 use Rattle.host.proofs.refusal.Tie as tie
 

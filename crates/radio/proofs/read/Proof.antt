@@ -12,7 +12,7 @@ use Rattle.wire.specs.declared.Answer.the-variants.{Accepted, BadCount}
 use Rattle.layout.specs.Slots.{counted, rowOf}
 use Rattle.layout.proofs.Lookup.{range, found, not-found}
 use Rattle.radio.specs.Read.{answerOf, gave}
-use Rattle.radio.proofs.Cases.{answer-counted, bad-count, good, read-refused, read-gives}
+use Rattle.radio.proofs.Cases.{answer-counted, bad-count, good, read-refused, read-gives, samples-taken}
 use borrow.Author.Needs.{needs}
 use Rattle.radio.proofs.read.Statement.{statement}
 use Rattle.radio.proofs.read.Tie as tie
@@ -69,27 +69,20 @@ returns-2 c =
     ap (λ r. gave r (now (given .iq)) (now (given .mic))) (c .refused2 .ensures)
     ∙ sym (read-refused _ _ _ _ _ _ (answered (c .before .before .before)) not-accepted)
 
+accepted-requires : tie.Need-accepted-requires
+accepted-requires c κs = let frame-good = good _ _ _ _ (is-accepted c) in omega (arith, frame-good .long)
+
 sub-read-samples : tie.Need-sub-read-samples
-sub-read-samples c = let frame-good = good _ _ _ _ (is-accepted c) in omega (arith, frame-good .long)
+sub-read-samples c = let frame-good = good _ _ _ _ (is-accepted (c .before)) in omega (arith, frame-good .long)
 
 part-read-samples-start : tie.Need-part-read-samples-start
-part-read-samples-start c = let frame-good = good _ _ _ _ (is-accepted c) in omega (arith, frame-good .long)
+part-read-samples-start c = let frame-good = good _ _ _ _ (is-accepted (c .before)) in omega (arith, frame-good .long)
 
 part-read-samples-end : tie.Need-part-read-samples-end
 part-read-samples-end c = search needs
 
 read-samples-requires : tie.Need-read-samples-requires
-read-samples-requires c κs =
-    let tested = c .before .before .before in
-    let frame-good = good _ _ _ _ (is-accepted tested) in (
-      ap length (payload-is tested) ∙ rw (length-drop 8 (now (tested .before .before .before .before .before .before .before .before .args .frame)), frame-good .long),
-      found-row (tested .before .before .before) .1,
-      frame-good .iq-room,
-      frame-good .mic-room,
-    )
-
-accepted-requires : tie.Need-accepted-requires
-accepted-requires c κs = let frame-good = good _ _ _ _ (is-accepted (c .before .before .before .before .before .before)) in omega (arith, frame-good .long)
+read-samples-requires c κs = search needs
 
 same-length : tie.Need-same-length
 same-length c = search needs
@@ -99,9 +92,12 @@ same-length-2 c = search needs
 
 returns-3 : tie.Need-returns-3
 returns-3 c =
-    let tested = c .before .before .before .before .before .before .before in
-    let wrote = c .before .before .before .read-samples .ensures in
-    read-gives _ _ _ _ _ (is-accepted tested) _ _ _ (c .accepted .ensures) (rw (payload-is tested) at (wrote .0)) (rw (payload-is tested) at (wrote .1))
+    let sampled = c .before .before in
+    let told = sampled .before .before .before .before in
+    let tested = told .before in
+    let given = tested .before .before .before .before .before .before .before .before .args in
+    let samples = rw (payload-is tested) at (sampled .read-samples .ensures) ∙ samples-taken _ _ _ _ (given .status) (is-accepted tested) in
+    read-gives _ _ _ _ _ (is-accepted tested) _ _ _ (told .accepted .ensures) (ap (λ p. p .0) samples) (ap (λ p. p .1) samples)
 
 pub read-spec : {M : Type 1} → statement M
 read-spec =
@@ -116,11 +112,11 @@ read-spec =
     number-requires
     refused-requires-2
     returns-2
+    accepted-requires
     sub-read-samples
     part-read-samples-start
     part-read-samples-end
     read-samples-requires
-    accepted-requires
     same-length
     same-length-2
     returns-3)

@@ -47,12 +47,12 @@ use denote.Triple.Clauses.{ensured, lasts}
 use denote.Triple.Table.{entered, cited}
 use denote.Triple.Walked.{says, Stays, stay-dropped, stay-ref, gave-slice, walkOf, AllGo, goes-dropped, goes-ref, goes-gave-slice, Walks, ends-at, walked, walk-meets}
 use denote.Exit.{yes}
+use Rattle.radio_status.specs.declared.record.Status.{Status}
+use Rattle.radio_status.proofs.record.Status as S
+use Rattle.radio_status.proofs.record.Status.Laws as S′
 use Rattle.radio.specs.Read.{gave, readOf}
 use Rattle.radio.specs.declared.Reading.{Reading}
 use Rattle.radio.specs.declared.Updated.{Updated}
-use Rattle.radio.specs.declared.record.Status.{Status}
-use Rattle.radio.proofs.record.Status as S
-use Rattle.radio.proofs.record.Status.Laws as S′
 use Rattle.radio.proofs.Reading as R
 use Rattle.radio.proofs.Reading.Laws as R′
 use Rattle.radio.proofs.Updated as U

@@ -10,7 +10,8 @@ use Rattle.wire.specs.declared.Answer.the-variants.{Accepted, BadCount}
 use Rattle.layout.specs.Slots.{counted, rowOf}
 use Rattle.layout.proofs.Lookup.{range, found, not-found}
 use Rattle.radio.specs.Write.{answerOf}
-use Rattle.radio.proofs.WriteCases.{versioned, answer-counted, bad-count, good, write-refused, write-gives}
+use Rattle.radio.proofs.FrameLaid.{frame-laid}
+use Rattle.radio.proofs.WriteCases.{answer-counted, bad-count, good, write-refused, write-gives}
 use borrow.Author.Needs.{needs}
 use Rattle.radio.proofs.write.Statement.{statement}
 use Rattle.radio.proofs.write.Tie as tie
@@ -58,10 +59,7 @@ cast-write-frame c =
     omega (arith, passed .listed)
 
 write-frame-requires : tie.Need-write-frame-requires
-write-frame-requires c κs =
-    let tested = c .before in
-    let passed = good _ _ _ _ _ _ (answered (tested .before .before) ∙ is-accepted tested) in
-    (passed .listed, versioned _ (passed .versions-fit), found-row (tested .before .before .before) .1, passed .iq-room, passed .mic-room, passed .long)
+write-frame-requires c κs = search needs
 
 same-length : tie.Need-same-length
 same-length c = search needs
@@ -69,7 +67,10 @@ same-length c = search needs
 returns-3 : tie.Need-returns-3
 returns-3 c =
     let tested = c .before .before .before .before in
-    write-gives _ _ _ _ _ _ (answered (tested .before .before) ∙ is-accepted tested) _ (c .before .before .write-frame .ensures)
+    let given = tested .before .before .before .before .before .before .before .before .args in
+    let accepted = answered (tested .before .before) ∙ is-accepted tested in
+    write-gives _ _ _ _ _ _ accepted _
+    (frame-laid (given .status) (given .word) (given .receivers) (now (given .iq)) (now (given .mic)) (now (given .frame)) (good _ _ _ _ _ _ accepted) _ (c .before .before .write-frame .ensures))
 
 pub write-spec : {M : Type 1} → statement M
 write-spec =

@@ -10,12 +10,14 @@ use lib.ListN.{length, drop, length-drop}
 use Rattle.wire.specs.Answers.{first, numberOf}
 use Rattle.wire.specs.declared.Answer.the-variants.{Accepted}
 use Rattle.host.proofs.BuildCases.{Ready, accepted-ready, same-outcome, build-refused, build-accepted}
-use Rattle.host.proofs.Filling.{put-rest}
+use Rattle.host_samples.proofs.Filling.{put-rest}
 use Rattle.wire.proofs.First.{only-accepted}
-use Rattle.host.proofs.Saying.{length-head}
-use Rattle.host.proofs.Slots.{payload-part}
+use Rattle.host_turn.proofs.Saying.{length-head}
+use Rattle.host_turn.proofs.Sendable.{head-put}
+use Rattle.host_samples.proofs.Slots.{payload-part}
+use Rattle.host_samples.proofs.Lengths.{is-whole, all-written}
 use Rattle.host.specs.Build.{refusals}
-use Rattle.host.specs.Sent.{headOf}
+use Rattle.host_turn.specs.Sent.{headOf}
 use Rattle.host.proofs.Builder.build.Statement.{statement}
 use Rattle.host.proofs.Builder.build.Tie as tie
 
@@ -43,7 +45,7 @@ returns c =
     rw answered (sym (build-refused _ _ _ (λ e. c .if1 .taken (c .before .number .ensures ∙ ap numberOf answered ∙ e))))
 
 put-head-requires : tie.Need-put-head-requires
-put-head-requires c κs = let r = ready (c .before) in (omega arith, omega arith, r .range)
+put-head-requires c κs = search needs
 
 sub-write-numbers : tie.Need-sub-write-numbers
 sub-write-numbers c = let long = headed (c .before .before) in omega arith
@@ -55,10 +57,7 @@ part-write-numbers-end : tie.Need-part-write-numbers-end
 part-write-numbers-end c = search needs
 
 write-numbers-requires : tie.Need-write-numbers-requires
-write-numbers-requires c κs =
-    let put = c .before .before .before in
-    let frame = put .put-head .last .0 in
-    (rw (payload-part frame, length-drop 8 frame, headed put), ready (put .before .before) .fits)
+write-numbers-requires c κs = search needs
 
 turn-after-requires : tie.Need-turn-after-requires
 turn-after-requires c κs = ready (c .before .before .before .before .before .before .before .before) .turn
@@ -73,12 +72,14 @@ returns-2 c =
     let accepted = put .before .before in
     let given = accepted .before .before .before .before .before .args in
     let b = given .self in
+    let r = ready accepted in
+    let frame = put .put-head .last .0 in
     same-outcome
     (tested (accepted .before .before) ∙ passed accepted)
     (λ i. record { host = b .host; turn = c .turn-after .ensures i })
-    (ap (λ f. putMid 8 (length f - 8) f (written .write-numbers .last .0)) (put .put-head .ensures)
+    (ap (λ f. putMid 8 (length f - 8) f (written .write-numbers .last .0)) (put .put-head .ensures ∙ head-put (b .turn) (b .host) (now (given .frame)) (r .turn) (r .range) (omega arith))
     ∙ put-rest 8 (headOf (b .turn) (b .host)) (drop 8 (now (given .frame))) (written .write-numbers .last .0) (length-head (b .turn) (b .host))
-    ∙ ap (λ p. headOf (b .turn) (b .host) ++ p) (written .write-numbers .ensures))
+    ∙ ap (λ p. headOf (b .turn) (b .host) ++ p) (written .write-numbers .ensures ∙ all-written _ _ (is-whole _ _ (rw (payload-part frame, length-drop 8 frame, headed put)) (r .fits))))
     ∙ sym (build-accepted _ _ _ (passed accepted))
 
 pub build-spec : {M : Type 1} → statement M

@@ -39,11 +39,11 @@ use denote.Triple.Table.{entered, cited}
 use denote.Triple.Walked.{says, Stays, stay-dropped, gave-ref, gave-slice, walkOf, AllGo, goes-dropped, goes-gave-ref, goes-gave-slice, Walks, ends-at, walked, walk-meets}
 use denote.Exit.{yes}
 use Rattle.wire.specs.Answers.{numberOf}
+use Rattle.radio_status.specs.declared.record.Status.{Status}
+use Rattle.radio_status.proofs.record.Status as S
 use Rattle.radio.specs.Read.{left, readOf}
 use Rattle.radio.specs.Export.{shown, numbered}
 use Rattle.radio.specs.declared.Updated.{Updated}
-use Rattle.radio.specs.declared.record.Status.{Status}
-use Rattle.radio.proofs.record.Status as S
 use Rattle.radio.proofs.Updated as U
 use Rattle.radio.proofs.Updated.Laws as U′
 use Rattle.radio.proofs.Locals.{freed}

@@ -1,7 +1,0 @@
--- `host_cells::source10_of` meets its contract: one arm for each code. Assumes nothing.
-use Rattle.capi.proofs.Codes.{three-last}
-use Rattle.capi.proofs.host_cells.source10_of.Statement.{statement}
-use Rattle.capi.proofs.host_cells.source10_of.Tie as tie
-
-pub source10-of-spec : {M : Type 1} → statement M
-source10-of-spec = tie.close (tie.spec (λ c. rw (c .match .keys1)) (λ c. rw (c .match .keys2)) (λ c. three-last _ _ _ _ (c .match .rest)))

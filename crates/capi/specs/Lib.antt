@@ -1,7 +1,0 @@
-pub mod Cells
-pub mod Status
-pub mod Host
-pub mod HostCalls
-pub mod Radio
-pub mod Layout
-pub mod Stream

@@ -1,0 +1,2 @@
+-- What is proved of the host's calls on cells.
+pub mod HostCases

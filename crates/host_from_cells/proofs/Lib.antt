@@ -1,0 +1,4 @@
+-- What is proved of the host record and the builder from cells.
+pub mod Codes
+pub mod Cases
+pub mod Faithful

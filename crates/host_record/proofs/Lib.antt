@@ -1,0 +1,2 @@
+-- The law of the named choices and their codes.
+pub mod Codes

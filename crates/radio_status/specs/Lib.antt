@@ -1,0 +1,5 @@
+pub mod Record
+pub mod Words
+pub mod Carried
+pub mod Control
+pub mod RoundTrip

@@ -1,0 +1,3 @@
+-- What is proved of the stream record as cells.
+pub mod Cases
+pub mod Faithful

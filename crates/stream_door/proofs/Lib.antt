@@ -1,0 +1,2 @@
+-- What is proved of the stream's calls on cells.
+pub mod StreamCases
