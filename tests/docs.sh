@@ -1,6 +1,6 @@
 #!/bin/sh
 # Holds the documents to the repository: every crate's file that they name is there, a theorem named beside a file of
-# proofs stands in it, every must-fail edit that they name is there, and each edit is named in docs/CONTRACTS.md.
+# proofs stands in it, every must-fail edit of docs/CONTRACTS.md is in the crate that it says, and each edit is named there.
 # POSIX sh, awk, grep and sed.
 set -eu
 cd "$(dirname "$0")/.."
@@ -20,10 +20,21 @@ grep -hoE '[a-z_]+/proofs/[A-Z][A-Za-z]+( `[a-z0-9-]+`,?)+' docs/CLAIMS.md | whi
     done
 done
 
-# A must-fail edit is named by words joined with `_`.
-named=$(sed -n '/^| crate/,/^$/p' docs/CONTRACTS.md | awk -F' [|] ' 'NF > 4 { print $5 }' | grep -oE '`[a-z0-9_]+`' | tr -d '`' | sort -u)
-for edit in $named; do
-    ls crates/*/must-fail/"$edit".edit >/dev/null 2>&1 || echo "docs/CONTRACTS.md: there is no edit $edit" >>"$faults"
+# The last column of a row of contracts names edits, of the row's crate or of the crate named before them.
+awk -F ' [|] ' '/^[|] [a-z_]+ [|]/ && NF == 5 {
+    count = split($5, parts, ";")
+    for (part = 1; part <= count; part++) print substr($1, 3), parts[part]
+}' docs/CONTRACTS.md | tr -d ',|' | while read -r crate words; do
+    for word in $words; do
+        case $word in
+        \`*-*\`) ;; # a theorem
+        \`*\`)
+            edit=$(echo "$word" | tr -d '`')
+            [ -f "crates/$crate/must-fail/$edit.edit" ] || echo "docs/CONTRACTS.md: $crate has no edit $edit" >>"$faults"
+            ;;
+        *) [ ! -d "crates/$word" ] || crate=$word ;;
+        esac
+    done
 done
 for file in crates/*/must-fail/*.edit; do
     grep -q "\`$(basename "$file" .edit)\`" docs/CONTRACTS.md || echo "docs/CONTRACTS.md does not name $file" >>"$faults"

@@ -16,7 +16,7 @@ use Rattle.wire.proofs.First.{accepted-none, accepts-only}
 use Rattle.layout.specs.Slots.{counted, slots, values}
 use Rattle.radio_status.specs.declared.record.Status.{Status}
 use Rattle.radio_samples.specs.Samples.{samplesRead}
-use Rattle.radio_samples.proofs.Roomy.{all-there, all-read}
+use Rattle.radio_samples.proofs.Roomy.{has-room, all-read}
 use Rattle.radio.specs.Read.{payload, tests, frameAnswer, padded, answerOf, taken, refused, gave, readOf}
 use Rattle.radio.specs.declared.Reading.{Reading}
 
@@ -101,7 +101,7 @@ module _ (frame : List ℕ) (n : ℕ) (iq mic : List ℤ) (s : Status) where
   samples-taken is =
       let passed = good frame n (length iq) (length mic) is in
       let whole : length (payload frame) ≡ 504 = rw (length-drop 8 frame, passed .long) in
-      all-read n (payload frame) iq mic (all-there n (length iq) (length mic) (length (payload frame)) 504 (passed .is-counted) (passed .iq-room) (passed .mic-room) whole)
+      all-read n (payload frame) iq mic (has-room n (length iq) (length mic) (length (payload frame)) 504 (passed .is-counted) (passed .iq-room) (passed .mic-room) whole)
 
   pub read-accepted : readOf frame n iq mic s .reading .answer ≡ Accepted → answerOf frame n (length iq) (length mic) ≡ Accepted
   read-accepted is =

@@ -15,7 +15,7 @@ use Rattle.radio_status.specs.Control.{header, headerOver}
 use Rattle.radio_status.specs.declared.record.Status.{Status}
 use Rattle.radio_status.proofs.HeaderCases.{header-long, header-laid}
 use Rattle.radio_samples.specs.Fill.{slotBytes, payloadOf, samplesOver}
-use Rattle.radio_samples.proofs.Roomy.{all-there, all-written}
+use Rattle.radio_samples.proofs.Roomy.{has-room, all-written}
 use Rattle.radio_samples.proofs.SlotsLaid.{slots-long}
 use Rattle.radio.specs.Write.{frameOf}
 use Rattle.radio.proofs.WriteCases.{Good}
@@ -39,7 +39,7 @@ module _ (s : Status) (w n : ℕ) (iq mic : List ℤ) where
     filled : samplesOver n iq mic (headerOver s w f) ≡ sets (headerOver s w f) 8 (payloadOf n iq mic)
     filled =
         let same : length (headerOver s w f) ≡ 512 = ap length headed ∙ length-sets f 0 (header s w) ∙ passed .long in
-        all-written n iq mic (headerOver s w f) (all-there n (length iq) (length mic) (length (headerOver s w f)) 512 (passed .is-counted) (passed .iq-room) (passed .mic-room) same)
+        all-written n iq mic (headerOver s w f) (has-room n (length iq) (length mic) (length (headerOver s w f)) 512 (passed .is-counted) (passed .iq-room) (passed .mic-room) same)
 
     pub frame-laid : (f₁ : List ℕ) → f₁ ≡ samplesOver n iq mic (headerOver s w f) → f₁ ≡ frameOf s w n iq mic
     unfolding frameOf

@@ -7,7 +7,9 @@ use lib.IntN.{ℤ}
 use lib.ListN.{length, getD}
 use Rattle.wire.specs.Lists.{over}
 use Rattle.wire.specs.Numbers.{be, signed}
-use Rattle.layout.specs.Slots.{counted, slots, values, iqPlace, micPlace}
+use Rattle.layout.specs.Slots.{counted, rowOf, slots, values, iqPlace, micPlace}
+use Rattle.radio_samples.specs.declared.Fit.{Fit}
+use Rattle.radio_samples.specs.declared.Fit.the-variants.{For, Unfit}
 
 -- the sample of three bytes, or of two, that begins at a place of p
 abbrev pub sample24 : List ℕ → ℕ → ℤ
@@ -26,6 +28,10 @@ micAt n payload t = sample16 payload (micPlace n t)
 -- a count of 1 to 8, slices of the lengths iq and mic that hold a frame's samples, and as many bytes as are due
 unfoldable pub roomy : ℕ → ℕ → ℕ → ℕ → ℕ → Bool
 roomy n iq mic bytes due = counted n && leb (values n) iq && leb (slots n) mic && eqb bytes due
+
+-- the row for which it is so
+abbrev pub fit : ℕ → ℕ → ℕ → ℕ → ℕ → Fit
+fit n iq mic bytes due = cond (roomy n iq mic bytes due) (For (rowOf n)) Unfit
 
 -- every sample of a payload at the start of its slice: "A longer slice keeps its remainder." Where they cannot be, both as they were
 unfoldable pub samplesRead : ℕ → List ℕ → List ℤ → List ℤ → List ℤ × List ℤ

@@ -1,27 +1,21 @@
--- `read_samples` meets its contract: nothing for another count, a short slice or another length, or every slot. Assumes nothing.
+-- `read_samples` meets its contract: nothing where something is missing, or every slot. Assumes nothing.
 use mathlib.Core.Path.{_≡_, sym, _∙_}
 use mathlib.Core.Bool.{true}
-use Prim.Native.Nat.{_≤_}
 use borrow.Author.Needs.{needs}
-use borrow.Author.Tests.{not-true, not-false}
 use denote.Ref.{now}
 use lib.ListN.{length}
-use Rattle.layout.specs.Slots.{counted, rowOf, slots, values}
-use Rattle.layout.proofs.Lookup.{range, found, not-found}
-use Rattle.radio_samples.proofs.Roomy.{bad-count, no-room, bad-length, all-there, rooms, not-read, gives-read}
+use Rattle.layout.specs.Slots.{rowOf}
+use Rattle.radio_samples.specs.Samples.{roomy}
+use Rattle.radio_samples.proofs.Roomy.{fits, unfit, room, not-read, gives-read}
 use Rattle.radio_samples.proofs.read_samples.Statement.{statement}
 use Rattle.radio_samples.proofs.read_samples.Tie as tie
 
--- the row that was found is the count's
-found-row : (c : tie.After-known-told) → (counted (c .before .before .before .before .before .args .receivers) ≡ true) × (c .before .row .given .0 .0 ≡ rowOf (c .before .before .before .before .before .args .receivers))
-found-row c = found _ _ (sym (c .before .before .before .row-of .ensures) ∙ c .before .row .given .1)
+-- all is there, and the row is the count's
+fitted : (c : tie.After-known-told) → (roomy (c .before .before .before .before .before .args .receivers) (length (now (c .before .before .before .before .before .args .iq))) (length (now (c .before .before .before .before .before .args .mic))) (length (now (c .before .before .before .before .before .args .payload))) 504 ≡ true) × (c .before .row .given .0 .0 ≡ rowOf (c .before .before .before .before .before .args .receivers))
+fitted c = fits _ _ _ _ _ _ (sym (c .before .before .before .fitting .ensures) ∙ c .before .row .given .1)
 
--- both slices passed their test
-room : (c : tie.Else1) → (values (c .before .before .before .before .before .before .before .args .receivers) ≤ length (now (c .before .before .before .before .before .before .before .args .iq))) × (slots (c .before .before .before .before .before .before .before .args .receivers) ≤ length (now (c .before .before .before .before .before .before .before .args .mic)))
-room c = rooms _ _ _ (sym (c .before .has-room .ensures) ∙ not-false _ (c .if1 .left))
-
-row-of-requires : tie.Need-row-of-requires
-row-of-requires c κs = search needs
+fitting-requires : tie.Need-fitting-requires
+fitting-requires c κs = search needs
 
 enum-known-row : tie.Need-enum-known-row
 enum-known-row c = search needs
@@ -30,28 +24,13 @@ enum-told : tie.Need-enum-told
 enum-told c = search needs
 
 returns : tie.Need-returns
-returns c =
-    let missing = sym (c .before .before .row-of .ensures) ∙ c .enum-told .given .1 in
-    sym (not-read _ _ _ _ (bad-count _ _ _ _ _ (not-found (c .before .before .before .before .args .receivers) missing)))
-
-has-room-requires : tie.Need-has-room-requires
-has-room-requires c κs = (range _ (found-row c .0) .1, found-row c .1)
-
-returns-2 : tie.Need-returns-2
-returns-2 c =
-    let short = sym (c .before .has-room .ensures) ∙ not-true _ (c .if1 .taken) in
-    sym (not-read _ _ _ _ (no-room _ _ _ _ _ (found-row (c .before .before) .0) short))
-
-returns-3 : tie.Need-returns-3
-returns-3 c =
-    let roomy = c .before in
-    sym (not-read _ _ _ _ (bad-length _ _ _ _ 504 (found-row (roomy .before .before) .0) (room roomy .0) (room roomy .1) (c .if2 .taken)))
+returns c = sym (not-read _ _ _ _ (unfit _ _ _ _ _ (sym (c .before .before .fitting .ensures) ∙ c .enum-told .given .1)))
 
 read-slots-requires : tie.Need-read-slots-requires
 read-slots-requires c κs =
-    let tested = c .before .before in
-    let roomy = tested .before in
-    (tested .if2 .left, found-row (roomy .before .before) .1, room roomy .0, room roomy .1)
+    let row = c .before .before in
+    let there = room _ _ _ _ _ (fitted row .0) in
+    (there .2, fitted row .1, there .0, there .1)
 
 same-length : tie.Need-same-length
 same-length c = search needs
@@ -59,26 +38,12 @@ same-length c = search needs
 same-length-2 : tie.Need-same-length-2
 same-length-2 c = search needs
 
-returns-4 : tie.Need-returns-4
-returns-4 c =
+returns-2 : tie.Need-returns-2
+returns-2 c =
     let call = c .before .before in
-    let tested = call .before .before .before in
-    let roomy = tested .before in
     let wrote = call .read-slots .ensures in
-    gives-read _ _ _ _ (all-there _ _ _ _ _ (found-row (roomy .before .before) .0) (room roomy .0) (room roomy .1) (tested .if2 .left)) _ _ (wrote .0) (wrote .1)
+    gives-read _ _ _ _ (fitted (call .before .before .before) .0) _ _ (wrote .0) (wrote .1)
 
 pub read-samples-spec : {M : Type 1} → statement M
 read-samples-spec =
-    tie.close
-    (tie.spec
-    row-of-requires
-    enum-known-row
-    enum-told
-    returns
-    has-room-requires
-    returns-2
-    returns-3
-    read-slots-requires
-    same-length
-    same-length-2
-    returns-4)
+    tie.close (tie.spec fitting-requires enum-known-row enum-told returns read-slots-requires same-length same-length-2 returns-2)
