@@ -11,4 +11,5 @@ pub mod Runs
 pub mod Sound
 pub mod Cut
 pub mod Resync
+pub mod Place
 pub mod Settled
