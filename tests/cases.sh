@@ -2,7 +2,7 @@
 # Runs the case files, whose answers were worked out from document 01 by hand, through the library's C door and
 # through the reference. Then it shows that a mistake is found: a copy of a case file with one mistake in it must
 # end with status 1, and name the file and the line.
-# POSIX sh, awk and cargo; the archive is made by tests/archive.sh.
+# POSIX sh, awk and cargo; the archive is made by tools/archive.sh.
 set -eu
 cd "$(dirname "$0")/.."
 HPSDR_ARCHIVE=${HPSDR_ARCHIVE:-$PWD/target/archive}

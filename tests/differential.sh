@@ -3,7 +3,7 @@
 # then a shorter run of the same under a memory checker. It prints the table of the calls and their
 # answers, and otherwise only what failed. A longer run, without the memory checker:
 #     tests/differential.sh --calls 100000000
-# POSIX sh, cargo and valgrind; the archive is made by tests/archive.sh.
+# POSIX sh, cargo and valgrind; the archive is made by tools/archive.sh.
 set -eu
 cd "$(dirname "$0")/.."
 HPSDR_ARCHIVE=${HPSDR_ARCHIVE:-$PWD/target/archive}
