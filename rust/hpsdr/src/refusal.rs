@@ -1,5 +1,6 @@
 use std::error::Error;
 use std::fmt;
+use std::io;
 
 /// Why a call did nothing. A call gives the first that holds, in the order of their numbers, and leaves everything
 /// that it was lent as it was.
@@ -24,7 +25,7 @@ pub enum Refusal {
     ShortBuffer = 4,
     /// More than 2^48 bytes would have been fed.
     StreamFull = 5,
-    /// The frame's first three bytes are not 7F.
+    /// The frame's first three bytes are not 7F 7F 7F.
     NoSync = 6,
     /// A padding byte is not 0.
     Padding = 7,
@@ -51,7 +52,7 @@ impl fmt::Display for Refusal {
                 "a sample slice is shorter than needed, or the output is under 4,096 bytes"
             }
             Refusal::StreamFull => "more than 2^48 bytes would have been fed",
-            Refusal::NoSync => "the frame's first three bytes are not 7F",
+            Refusal::NoSync => "the frame's first three bytes are not 7F 7F 7F",
             Refusal::Padding => "a padding byte is not 0",
             Refusal::Reserved => "an unassigned host code or bit is set",
             Refusal::Range => "a value to be written does not fit",
@@ -60,6 +61,23 @@ impl fmt::Display for Refusal {
 }
 
 impl Error for Refusal {}
+
+/// An error of kind `Other` with the refusal in it, so that a function which reads its frames from a file or a socket
+/// can answer both by one type.
+///
+/// ```
+/// use hpsdr::{layout, Refusal};
+/// use std::io;
+///
+/// let error = io::Error::from(layout(9).unwrap_err());
+/// assert_eq!(error.to_string(), "the receiver count is not 1 to 8");
+/// assert_eq!(error.downcast::<Refusal>().unwrap(), Refusal::BadCount);
+/// ```
+impl From<Refusal> for io::Error {
+    fn from(refusal: Refusal) -> io::Error {
+        io::Error::other(refusal)
+    }
+}
 
 /// What a call found, or its refusal. No call gives an answer above 9.
 #[inline]

@@ -1,6 +1,8 @@
 use crate::cells::{Record, Way};
+use crate::layout::layout;
 use crate::raw;
 use crate::refusal::{found, Refusal};
+use crate::samples::Samples;
 
 /// What the radio's words have told so far.
 ///
@@ -169,6 +171,10 @@ impl Status {
     /// Reads a frame of 1 to 8 receivers: I and Q of receiver 1 to the last, slot by slot, to the start of `iq`, one
     /// microphone value a slot to the start of `mic`, and the word into the record. Gives the word that came.
     ///
+    /// A frame does not carry the number of its receivers, so it is the caller's to know. A wrong one is refused only
+    /// where the padding of that number is not all 0 in the frame; 1 and 2 receivers have no padding. Where it is not
+    /// refused, what comes out is the frame read as if it had so many.
+    ///
     /// Refusals: `BadCount`, `Length`, `ShortBuffer`, `NoSync`, `Padding`.
     ///
     /// ```
@@ -204,7 +210,7 @@ impl Status {
     pub fn read(
         &mut self,
         frame: &[u8],
-        receivers: u8,
+        receivers: usize,
         iq: &mut [i32],
         mic: &mut [i16],
     ) -> Result<Word, Refusal> {
@@ -215,7 +221,7 @@ impl Status {
             raw::hpsdr_radio_read(
                 frame.as_ptr(),
                 frame.len(),
-                receivers.into(),
+                receivers,
                 iq.as_mut_ptr(),
                 iq.len(),
                 mic.as_mut_ptr(),
@@ -229,8 +235,41 @@ impl Status {
         Ok(Word::of(address as u8))
     }
 
+    /// Reads a frame of 1 to 8 receivers as [`read`](Status::read) does, into `samples`, where they stand by receiver.
+    /// What is said there of the number of receivers is true here.
+    ///
+    /// Refusals, which leave `samples` and the record as they were: `BadCount`, `Length`, `NoSync`, `Padding`.
+    ///
+    /// ```
+    /// use hpsdr::{Samples, Status, Word, FRAME};
+    ///
+    /// // Word 1. In the first slot of one receiver I is 5, Q is -1 and the microphone value 9.
+    /// let mut frame = [0; FRAME];
+    /// frame[..4].copy_from_slice(&[0x7F, 0x7F, 0x7F, 0x08]);
+    /// frame[8..16].copy_from_slice(&[0, 0, 5, 0xFF, 0xFF, 0xFF, 0, 9]);
+    ///
+    /// let (mut status, mut samples) = (Status::fresh(), Samples::fresh());
+    /// assert_eq!(status.read_frame(&frame, 1, &mut samples), Ok(Word::ForwardPower));
+    /// assert_eq!(samples.receiver(0).unwrap().next(), Some((5, -1)));
+    /// assert_eq!((samples.iq().len(), samples.mic().len()), (126, 63));
+    /// assert_eq!(samples.mic()[0], 9);
+    /// ```
+    pub fn read_frame(
+        &mut self,
+        frame: &[u8],
+        receivers: usize,
+        samples: &mut Samples,
+    ) -> Result<Word, Refusal> {
+        let slots = layout(receivers)?.slots;
+        let iq = samples.pairs.as_flattened_mut();
+        let word = self.read(frame, receivers, iq, &mut samples.mic)?;
+        (samples.receivers, samples.slots) = (receivers, slots);
+        Ok(word)
+    }
+
     /// Writes the frame that carries a word of the record: all 512 bytes of it. The word goes by its address, and
-    /// one above 4 is out of range.
+    /// one above 4 is out of range. The frame does not carry the number of receivers; who [reads](Status::read) it has
+    /// to know it.
     ///
     /// Refusals: `BadCount`, `Length`, `ShortBuffer`, `Range`.
     ///
@@ -251,7 +290,7 @@ impl Status {
     pub fn write(
         &self,
         word: Word,
-        receivers: u8,
+        receivers: usize,
         iq: &[i32],
         mic: &[i16],
         frame: &mut [u8],
@@ -264,7 +303,7 @@ impl Status {
                 cells.as_ptr(),
                 cells.len(),
                 word.address().into(),
-                receivers.into(),
+                receivers,
                 iq.as_ptr(),
                 iq.len(),
                 mic.as_ptr(),

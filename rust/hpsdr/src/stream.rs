@@ -15,7 +15,9 @@ pub struct Counts {
     pub total: u64,
 }
 
-/// The reader that finds radio frames in a stream of bytes.
+/// The reader that finds radio frames in a stream of bytes: 512 of them that begin with sync, 7F 7F 7F, are a frame if
+/// sync follows; otherwise one byte is skipped. For bytes that come from a file or a socket there is
+/// [`frames`](crate::frames).
 #[repr(C)]
 #[derive(Clone, Debug, PartialEq, Eq)]
 pub struct Stream {

@@ -3,10 +3,13 @@
 mod common;
 
 use common::frame;
-use hpsdr::{layout, Builder, Host, Refusal, Status, Stream, Word, AUDIO};
+use hpsdr::{layout, Builder, Host, Refusal, Samples, Status, Stream, Word, AUDIO};
 use std::error::Error;
 
-fn refused_read(frame: &[u8], receivers: u8, iq: usize, mic: usize, refusal: Refusal) {
+/// None is 1 to 8. Two would be 3 if they were cut to 8 or to 32 bits.
+const BAD_COUNTS: [usize; 7] = [0, 9, 255, 256 + 3, 300, (1 << 32) + 3, usize::MAX];
+
+fn refused_read(frame: &[u8], receivers: usize, iq: usize, mic: usize, refusal: Refusal) {
     let given = Status {
         board3: 200,
         ..Status::fresh()
@@ -17,6 +20,26 @@ fn refused_read(frame: &[u8], receivers: u8, iq: usize, mic: usize, refusal: Ref
     assert_eq!(status, given);
     assert!(iq.iter().all(|&value| value == 7));
     assert!(mic.iter().all(|&value| value == 8));
+    if refusal != Refusal::ShortBuffer {
+        refused_read_frame(frame, receivers, refusal);
+    }
+}
+
+/// The same with room for any samples, which hold those of an earlier frame: two receivers, all 0 but the first I.
+fn refused_read_frame(bad: &[u8], receivers: usize, refusal: Refusal) {
+    let mut earlier = frame([0; 5]);
+    earlier[10] = 7;
+    let (mut status, mut samples) = (Status::fresh(), Samples::fresh());
+    status.read_frame(&earlier, 2, &mut samples).unwrap();
+    let given = status;
+    assert_eq!(
+        status.read_frame(bad, receivers, &mut samples),
+        Err(refusal)
+    );
+    assert_eq!((status, samples.receivers()), (given, 2));
+    assert_eq!(samples.iq()[0], 7);
+    assert_eq!(samples.iq()[1..], [0; 143]);
+    assert_eq!(samples.mic(), [0; 36]);
 }
 
 #[test]
@@ -24,9 +47,9 @@ fn radio_read() {
     let good = frame([0x0F, 1, 2, 3, 4]);
     let mut unsynced = good;
     unsynced[2] = 0x7E;
-    refused_read(&good, 0, 160, 63, Refusal::BadCount);
-    refused_read(&good, 9, 160, 63, Refusal::BadCount);
-    refused_read(&good, 255, 160, 63, Refusal::BadCount);
+    for receivers in BAD_COUNTS {
+        refused_read(&good, receivers, 160, 63, Refusal::BadCount);
+    }
     refused_read(&good[..511], 1, 126, 63, Refusal::Length);
     refused_read(
         &[good.as_slice(), &[0]].concat(),
@@ -68,7 +91,7 @@ fn order_of_a_read() {
 
 fn refused_write(
     status: Status,
-    (word, receivers): (Word, u8),
+    (word, receivers): (Word, usize),
     (iq, mic): (&[i32], &[i16]),
     frame: usize,
     refusal: Refusal,
@@ -85,8 +108,10 @@ fn radio_write() {
     let (iq, mic) = ([0; 126], [0; 63]);
     let both = (iq.as_slice(), mic.as_slice());
     let one = (Word::Inputs, 1);
-    refused_write(fresh, (Word::Inputs, 0), both, 512, Refusal::BadCount);
-    refused_write(fresh, (Word::Inputs, 9), both, 512, Refusal::BadCount);
+    for receivers in BAD_COUNTS {
+        let word = (Word::Inputs, receivers);
+        refused_write(fresh, word, both, 512, Refusal::BadCount);
+    }
     refused_write(fresh, one, both, 511, Refusal::Length);
     refused_write(fresh, one, both, 513, Refusal::Length);
     refused_write(fresh, one, (&iq[1..], &mic), 512, Refusal::ShortBuffer);
@@ -279,7 +304,7 @@ fn numbers_and_texts() {
 
 #[test]
 fn layout_counts() {
-    for receivers in [0, 9, 255] {
+    for receivers in BAD_COUNTS {
         assert_eq!(layout(receivers), Err(Refusal::BadCount));
     }
 }

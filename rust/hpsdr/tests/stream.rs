@@ -1,35 +1,11 @@
 //! The stream reader, whatever pieces its bytes come in.
 
 mod common;
+#[path = "common/recording.rs"]
+mod recording;
 
 use hpsdr::{Counts, Stream, OUTPUT_LEAST};
-
-/// A frame whose payload is like that of no other number.
-fn numbered(number: u8) -> [u8; 512] {
-    let mut frame = common::frame([0; 5]);
-    frame[8..].fill(number);
-    frame
-}
-
-/// Frame 1; 40 bytes with a lone sync among them; frames 2 and 3; a cut frame of 300 bytes; frames 4 to 6, and the
-/// sync of a last one.
-fn recording() -> Vec<u8> {
-    let mut stray = [0x11; 40];
-    stray[..3].fill(0x7F);
-    stray[20..23].fill(0x7F);
-    let parts: [&[u8]; 9] = [
-        &numbered(1),
-        &stray,
-        &numbered(2),
-        &numbered(3),
-        &numbered(9)[..300],
-        &numbered(4),
-        &numbered(5),
-        &numbered(6),
-        &[0x7F; 3],
-    ];
-    parts.concat()
-}
+use recording::{numbered, recording};
 
 /// The frames found, and the record left, when the recording is read in pieces of these sizes, again and again.
 fn read_in_pieces(sizes: &[usize]) -> (Vec<u8>, Stream) {

@@ -286,7 +286,7 @@ fn first_choices() {
 
 #[test]
 fn audio_both_ways() {
-    let mut audio: [i16; AUDIO] = std::array::from_fn(|at| at as i16 * 259 - 32_000);
+    let mut audio: [i16; AUDIO] = std::array::from_fn(|at| (at as i32 * 259 - 32_000) as i16);
     audio[251] = -32_768;
     let mut written = [0; 512];
     assert_eq!(Builder::fresh().build(&audio, &mut written), Ok(()));
