@@ -5,16 +5,27 @@
  * that holds in the order of their numbers. After a refusal every buffer and record that was lent holds
  * what it held before. No call keeps a pointer, and none has a state of its own.
  *
- * A slice is a pointer and the number of its elements. The pointer is not null and is aligned for its type,
- * even where the number is 0; the elements are the caller's for the time of the call, and what a call may
- * write overlaps nothing else that it is lent. These are the only things that a call cannot check.
+ * Each call has a full form and below it a short one. Begin with the short forms: `hpsdr_read`, `hpsdr_write`,
+ * `hpsdr_hear`, `hpsdr_build_next`, `hpsdr_feed`, and the `_init` ones for their records. They take a record by its
+ * pointer, and arrays that are whole: a frame of HPSDR_FRAME bytes, audio of HPSDR_AUDIO numbers, an output of
+ * HPSDR_OUTPUT_LEAST bytes. They trust the caller for these sizes only, so they never answer SHORT_BUFFER, and LENGTH
+ * only for a piece above 4,096 bytes; all else they check as the full forms do. The full forms take a length after
+ * each pointer and check it too: they are for lengths that come from elsewhere. `examples/peaks.c` is a whole program.
  *
- * A record is a struct whose members are all of one type, and is lent as a slice of them, its cells. A longer
- * slice keeps its remainder. Cells that no record holds (too few of them, a flag above 1, a code past the
- * last, a number too large for its field) are refused as HPSDR_BAD_STATE, before all else. A call that only
- * writes a record, `hpsdr_layout` or a `_fresh` one, asks for enough cells and does not look at them.
+ * In both forms a pointer is not null and is aligned for its type, even where the length after it is 0; what it
+ * points at is the caller's for the time of the call, as many elements as the form says or as are given, and what a
+ * call may write overlaps nothing else that it is lent. These are the only things that a call cannot check.
  *
- * What a call returns is its answer in bits 7 to 0 and, where it says so, what it found in the bits above.
+ * A record is a struct whose members are all of one type, the stream's apart, and the full forms take it as so many
+ * cells of that type; HPSDR_STATUS_CELLS and its like give the number. Too few cells are BAD_STATE, and more than the
+ * record has are left alone. A field has two limits. Beyond its cell (a flag above 1, a code past the last, a number
+ * that no cell of that field holds) every call that looks at the record refuses it as BAD_STATE, before all else.
+ * Beyond its frame (a number that the cell holds and a frame does not) a call that writes a frame refuses it as RANGE,
+ * whichever word the frame carries, and a call that reads a frame does not refuse it. Each struct says which is which.
+ * A call that only writes a record, `hpsdr_layout` or a `_fresh` one, does not look at what stands there.
+ *
+ * What a call returns is its answer in bits 7 to 0 and, where it says so, what it found in the bits above; on a
+ * refusal it found 0. An accepted call that found something does not return 0: ask `hpsdr_answer_of`.
  */
 #ifndef HPSDR_H
 #define HPSDR_H
@@ -26,70 +37,153 @@
 extern "C" {
 #endif
 
+/* What each of them says stands in `hpsdr_answer_sentence`. */
 enum hpsdr_answer {
-    HPSDR_ACCEPTED = 0,     /* the call did its work */
-    HPSDR_BAD_STATE = 1,    /* the stream record is unsound, the turn is above 10, or cells hold no record */
-    HPSDR_BAD_COUNT = 2,    /* the receiver count is not 1 to 8 */
-    HPSDR_LENGTH = 3,       /* the frame is not 512 bytes, or the piece is above 4,096 */
-    HPSDR_SHORT_BUFFER = 4, /* a sample slice is shorter than needed, or the output is under 4,096 bytes */
-    HPSDR_STREAM_FULL = 5,  /* more than 2^48 bytes would have been fed */
-    HPSDR_NO_SYNC = 6,      /* the frame's first three bytes are not 7F */
-    HPSDR_PADDING = 7,      /* a padding byte is not 0 */
-    HPSDR_RESERVED = 8,     /* an unassigned host code or bit is set */
-    HPSDR_RANGE = 9         /* a value to be written does not fit */
+    HPSDR_ACCEPTED = 0,
+    HPSDR_BAD_STATE = 1,
+    HPSDR_BAD_COUNT = 2,
+    HPSDR_LENGTH = 3,
+    HPSDR_SHORT_BUFFER = 4,
+    HPSDR_STREAM_FULL = 5,
+    HPSDR_NO_SYNC = 6,
+    HPSDR_PADDING = 7,
+    HPSDR_RESERVED = 8,
+    HPSDR_RANGE = 9
 };
-
-#define HPSDR_FRAME 512      /* bytes of a frame */
-#define HPSDR_AUDIO 252      /* numbers of a host frame: L, R, I, Q, 63 times */
-#define HPSDR_PIECE_MOST 4096
-#define HPSDR_OUTPUT_LEAST 4096
-#define HPSDR_HELD 514       /* bytes that a stream may hold */
 
 /* The two parts of what a call returns. */
 static inline enum hpsdr_answer hpsdr_answer_of(uint32_t got) { return (enum hpsdr_answer)(got & 0xff); }
 static inline uint32_t hpsdr_found_in(uint32_t got) { return got >> 8; }
 
+/* What an answer says, for people to read: that of `hpsdr_answer_of(got)`, not of `got` itself. */
+static inline const char *hpsdr_answer_sentence(uint32_t answer) {
+    switch (answer) {
+    case HPSDR_ACCEPTED: return "the call did its work";
+    case HPSDR_BAD_STATE: return "the stream record is unsound, the turn is above 10, or cells hold no record";
+    case HPSDR_BAD_COUNT: return "the receiver count is not 1 to 8";
+    case HPSDR_LENGTH: return "the frame is not 512 bytes, or the piece is above 4,096";
+    case HPSDR_SHORT_BUFFER: return "a sample slice is shorter than needed, or the output is under 4,096 bytes";
+    case HPSDR_STREAM_FULL: return "more than 2^48 bytes would have been fed";
+    case HPSDR_NO_SYNC: return "the frame's first three bytes are not 7F 7F 7F";
+    case HPSDR_PADDING: return "a padding byte is not 0";
+    case HPSDR_RESERVED: return "an unassigned host code or bit is set";
+    case HPSDR_RANGE: return "a value to be written does not fit";
+    default: return "this number is no answer";
+    }
+}
+
+/* Its name without HPSDR_, or "?" for a number that is no answer. */
+static inline const char *hpsdr_answer_name(uint32_t answer) {
+    switch (answer) {
+    case HPSDR_ACCEPTED: return "ACCEPTED";
+    case HPSDR_BAD_STATE: return "BAD_STATE";
+    case HPSDR_BAD_COUNT: return "BAD_COUNT";
+    case HPSDR_LENGTH: return "LENGTH";
+    case HPSDR_SHORT_BUFFER: return "SHORT_BUFFER";
+    case HPSDR_STREAM_FULL: return "STREAM_FULL";
+    case HPSDR_NO_SYNC: return "NO_SYNC";
+    case HPSDR_PADDING: return "PADDING";
+    case HPSDR_RESERVED: return "RESERVED";
+    case HPSDR_RANGE: return "RANGE";
+    default: return "?";
+    }
+}
+
+#define HPSDR_FRAME 512         /* bytes of a frame: sync (7F 7F 7F), C0 to C4, 504 of samples and padding */
+#define HPSDR_MOST_RECEIVERS 8
+#define HPSDR_MOST_IQ 160       /* the most I and Q values of a radio frame: 2 times 8 receivers times 10 slots */
+#define HPSDR_MOST_MIC 63       /* the most microphone values of a radio frame: the slots of one receiver */
+#define HPSDR_AUDIO 252         /* numbers of a host frame: L, R, I, Q, 63 times */
+#define HPSDR_PIECE_MOST 4096   /* bytes of the longest piece that a stream is fed */
+#define HPSDR_OUTPUT_LEAST 4096 /* bytes of the shortest output that a stream is lent: eight frames */
+#define HPSDR_HELD 514          /* bytes that a stream may hold */
+
 /* ---- how the samples of 1 to 8 receivers fill a radio frame ---- */
 
+/* A slot is I and Q of each receiver, 3 bytes each, and a microphone value of 2 bytes. */
 struct hpsdr_row {
     uint32_t slot;    /* bytes of a slot */
     uint32_t slots;   /* slots of a frame: as many microphone values, and 2 * receivers times as many of I and Q */
-    uint32_t padding; /* zero bytes after the slots */
+    uint32_t padding; /* zero bytes after the slots: none for 1 and 2 receivers, 4 to 24 for 3 to 8 */
 };
+#define HPSDR_ROW_CELLS (sizeof(struct hpsdr_row) / sizeof(uint32_t)) /* 3 */
 
-/* The row of a number of receivers. Refusals: BAD_STATE, BAD_COUNT. */
+/* The row of a number of receivers. Refusals: BAD_STATE (too few cells), BAD_COUNT. */
 uint32_t hpsdr_layout(size_t receivers, struct hpsdr_row *row, size_t row_cells);
+
+static inline uint32_t hpsdr_row_of(size_t receivers, struct hpsdr_row *row) {
+    return hpsdr_layout(receivers, row, HPSDR_ROW_CELLS);
+}
 
 /* ---- frames from the radio ---- */
 
-/* What the radio's words have told so far. A flag is 1 or 0. */
+/* What the radio's words have told so far. A flag is 1 or 0. BAD_STATE: a flag above 1, a serial number or version
+ * above 255, a level above 65,535. RANGE on writing, and no refusal on reading: a version of 128 to 255. */
 struct hpsdr_status {
-    uint32_t dot, dash, ptt;             /* every accepted frame */
-    uint32_t adc1, adc2, adc3, adc4;     /* overflow: word 4, and adc1 by word 0 too */
-    uint32_t io1, io2, io3, io4;         /* word 0: 1 is active, whose bit on the wire is 0 */
-    uint32_t pll, toggle;                /* word 0: locked; the frequency-changed bit */
-    uint32_t mercury, penelope, main;    /* word 0: serial numbers, 0 to 255 */
-    uint32_t ain5, ain1;                 /* word 1: forward power, 0 to 65,535 */
-    uint32_t ain2, ain3;                 /* word 2: reverse power, and AIN3 */
-    uint32_t ain4, ain6;                 /* word 3 */
-    uint32_t board1, board2, board3, board4; /* word 4: versions; a cell holds up to 255, a frame up to 127 */
+    uint32_t dot, dash, ptt;                 /* flags: every accepted frame */
+    uint32_t adc1, adc2, adc3, adc4;         /* flags, overflow: word 4, and adc1 by word 0 too */
+    uint32_t io1, io2, io3, io4;             /* flags: word 0; 1 is active, whose bit on the wire is 0 */
+    uint32_t pll, toggle;                    /* flags: word 0; locked; the frequency-changed bit */
+    uint32_t mercury, penelope, main;        /* serial numbers: word 0 */
+    uint32_t ain5, ain1;                     /* levels: word 1; forward power */
+    uint32_t ain2, ain3;                     /* levels: word 2; reverse power, and AIN3 */
+    uint32_t ain4, ain6;                     /* levels: word 3 */
+    uint32_t board1, board2, board3, board4; /* versions: word 4 */
 };
+#define HPSDR_STATUS_CELLS (sizeof(struct hpsdr_status) / sizeof(uint32_t)) /* 26 */
 
-/* The record that all-zero words give: its four inputs are active. Refusal: BAD_STATE. */
+/* The record that all-zero words give: its four inputs are active. Refusal: BAD_STATE (too few cells). */
 uint32_t hpsdr_status_fresh(struct hpsdr_status *status, size_t status_cells);
 
-/* Reads a frame: I and Q of receiver 1 to the last, slot by slot, to the start of `iq`, one microphone value a
- * slot to the start of `mic`, and the word into the record where it stands. Found: the word's address, 0 to
- * 31, of which 0 to 4 are listed. Refusals: BAD_STATE, BAD_COUNT, LENGTH, SHORT_BUFFER, NO_SYNC, PADDING. */
+static inline void hpsdr_status_init(struct hpsdr_status *status) { hpsdr_status_fresh(status, HPSDR_STATUS_CELLS); }
+
+/* The samples of a frame, with room for every number of receivers. Of n receivers, receiver r's I in slot t, both
+ * counted from 0, is iq[2 * (t * n + r)], its Q is the one after it, and the slot's microphone value is mic[t]. I and
+ * Q are -8,388,608 to 8,388,607: no reading gives others, and a writing refuses others as RANGE. A microphone value
+ * is -32,768 to 32,767, all that its type holds. What stands after a frame's values is neither read nor written. */
+struct hpsdr_samples {
+    int32_t iq[HPSDR_MOST_IQ];
+    int16_t mic[HPSDR_MOST_MIC];
+};
+
+/* I and Q of receiver r in slot t, for r below the number of receivers n and t below the slots of its row. This is
+ * not checked. */
+static inline int32_t hpsdr_i(const struct hpsdr_samples *samples, size_t n, size_t r, size_t t) {
+    return samples->iq[2 * (t * n + r)];
+}
+static inline int32_t hpsdr_q(const struct hpsdr_samples *samples, size_t n, size_t r, size_t t) {
+    return samples->iq[2 * (t * n + r) + 1];
+}
+
+/* Reads a frame: I and Q to the start of `iq` and the microphone values to the start of `mic`, in the order above, and
+ * its word into the record where it stands. Found: the word's address, 0 to 31, of which 0 to 4 are listed; another
+ * one sets `dot`, `dash` and `ptt` only. Refusals: BAD_STATE, BAD_COUNT, LENGTH, SHORT_BUFFER, NO_SYNC, PADDING.
+ *
+ * No frame carries the number of its receivers: the caller has to know it. A wrong number is not detected where the
+ * frame has no padding for that number (1 and 2), or has zeros there. The frame is then accepted, and its samples are
+ * cut at wrong places and given to wrong receivers. */
 uint32_t hpsdr_radio_read(const uint8_t *frame, size_t frame_length, size_t receivers,
                           int32_t *iq, size_t iq_length, int16_t *mic, size_t mic_length,
                           struct hpsdr_status *status, size_t status_cells);
 
-/* Writes the frame that carries a word of the record, 0 to 4: all 512 bytes of it.
- * Refusals: BAD_STATE, BAD_COUNT, LENGTH, SHORT_BUFFER, RANGE. */
+static inline uint32_t hpsdr_read(const uint8_t frame[HPSDR_FRAME], size_t receivers, struct hpsdr_samples *samples,
+                                  struct hpsdr_status *status) {
+    return hpsdr_radio_read(frame, HPSDR_FRAME, receivers, samples->iq, HPSDR_MOST_IQ, samples->mic, HPSDR_MOST_MIC,
+                            status, HPSDR_STATUS_CELLS);
+}
+
+/* Writes the frame that carries a word of the record, 0 to 4: all 512 bytes of it, padding among them. Who reads it has
+ * to know the number of receivers. Refusals: BAD_STATE, BAD_COUNT, LENGTH, SHORT_BUFFER, and RANGE for a word above
+ * 4, a version above 127, whichever word is written, and an I or Q of this frame that is out of its range. */
 uint32_t hpsdr_radio_write(const struct hpsdr_status *status, size_t status_cells, size_t word, size_t receivers,
                            const int32_t *iq, size_t iq_length, const int16_t *mic, size_t mic_length,
                            uint8_t *frame, size_t frame_length);
+
+static inline uint32_t hpsdr_write(const struct hpsdr_status *status, size_t word, size_t receivers,
+                                   const struct hpsdr_samples *samples, uint8_t frame[HPSDR_FRAME]) {
+    return hpsdr_radio_write(status, HPSDR_STATUS_CELLS, word, receivers, samples->iq, HPSDR_MOST_IQ, samples->mic,
+                             HPSDR_MOST_MIC, frame, HPSDR_FRAME);
+}
 
 /* ---- frames from the host ---- */
 
@@ -104,7 +198,10 @@ enum hpsdr_relay { HPSDR_TX1, HPSDR_TX2, HPSDR_TX3 };
 /* Orion's microphone jack; the microphone goes to the other contact. */
 enum hpsdr_jack { HPSDR_PTT_TO_RING, HPSDR_PTT_TO_TIP };
 
-/* What a host tells its radio. A flag is 1 or 0, a choice is its code. */
+/* What a host tells its radio. A field is a flag, 1 or 0, where nothing else is said; a choice is its code. BAD_STATE:
+ * a flag above 1, a code past the last of its enum, a number above 255; a frequency may be any. RANGE on building,
+ * and no refusal on reading, for what is not above 255: `outputs` above 127, `receivers` 0 or above 8, `line_in_gain`
+ * above 31, `word10_c2_top` above 7. */
 struct hpsdr_host {
     uint32_t mox;         /* every accepted frame */
     /* word 0 */
@@ -114,20 +211,20 @@ struct hpsdr_host {
     uint32_t boards;      /* enum hpsdr_boards */
     uint32_t microphone;  /* enum hpsdr_microphone */
     uint32_t class_e;
-    uint32_t outputs;     /* open collector outputs: a cell holds up to 255, a frame up to 127 */
+    uint32_t outputs;     /* open collector outputs, a number: a frame has 0 to 127 */
     uint32_t attenuator;  /* enum hpsdr_attenuator */
     uint32_t preamp, dither, random;
     uint32_t antenna;     /* enum hpsdr_antenna */
     uint32_t rx_out;
     uint32_t relay;       /* enum hpsdr_relay */
     uint32_t duplex;
-    uint32_t receivers;   /* a cell holds up to 255, a frame 1 to 8 */
+    uint32_t receivers;   /* a number: a frame has 1 to 8 */
     uint32_t time_stamp, common_frequency;
-    /* words 1 to 8, in Hz */
+    /* words 1 to 8: frequencies in Hz */
     uint32_t transmitter;
     uint32_t frequencies[7]; /* of receivers 1 to 7 */
     /* word 9 */
-    uint32_t drive;       /* 0 to 255 */
+    uint32_t drive;       /* a number: a frame has 0 to 255 */
     uint32_t mic_boost, line_in, apollo_filter, apollo_tuner, auto_tune, filter_board, manual_filters, vna;
     uint32_t high_pass_13, high_pass_20, high_pass_9_5, high_pass_6_5, high_pass_1_5, bypass, amplifier_6m, tr_disabled;
     uint32_t low_pass_30_20, low_pass_60_40, low_pass_80, low_pass_160, low_pass_6, low_pass_12_10, low_pass_17_15;
@@ -135,63 +232,117 @@ struct hpsdr_host {
     uint32_t rx_preamps[4];        /* of receivers 1 to 4; word 0's `preamp` is a field of its own */
     uint32_t orion_jack;           /* enum hpsdr_jack */
     uint32_t mic_bias, mic_ptt_disabled;
-    uint32_t line_in_gain;         /* a cell holds up to 255, a frame up to 31 */
-    uint32_t word10_c2_top;        /* bits 7-5 of C2, a plain number: a cell holds up to 255, a frame up to 7 */
-    uint32_t word10_c3, word10_c4; /* C3 and C4, plain numbers, 0 to 255 */
+    uint32_t line_in_gain;         /* a number: a frame has 0 to 31 */
+    uint32_t word10_c2_top;        /* bits 7-5 of C2, a plain number: a frame has 0 to 7 */
+    uint32_t word10_c3, word10_c4; /* C3 and C4, plain numbers: a frame has 0 to 255 */
 };
+#define HPSDR_HOST_CELLS (sizeof(struct hpsdr_host) / sizeof(uint32_t)) /* 62 */
 
-/* The record that all-zero words give: one receiver. Refusal: BAD_STATE. */
+/* The record that all-zero words give: one receiver. Refusal: BAD_STATE (too few cells). */
 uint32_t hpsdr_host_fresh(struct hpsdr_host *host, size_t host_cells);
 
-/* Reads a frame: its 252 numbers to the start of `audio`, its word into the record where it stands. Found: the
- * word's address, 0 to 127, of which 0 to 10 are listed. Refusals: BAD_STATE, LENGTH, SHORT_BUFFER, NO_SYNC,
- * RESERVED. */
+static inline void hpsdr_host_init(struct hpsdr_host *host) { hpsdr_host_fresh(host, HPSDR_HOST_CELLS); }
+
+/* Reads a frame: its 252 numbers to the start of `audio`, and its word into the record where it stands. L, R, I and Q
+ * of slot t, 0 to 62, are audio[4 * t] and the three after it, and each may be any int16_t. Found: the word's address,
+ * 0 to 127, of which 0 to 10 are listed; another one sets `mox` only. Refusals: BAD_STATE, LENGTH, SHORT_BUFFER,
+ * NO_SYNC, RESERVED. */
 uint32_t hpsdr_host_read(const uint8_t *frame, size_t frame_length, int16_t *audio, size_t audio_length,
                          struct hpsdr_host *host, size_t host_cells);
 
-/* A host record and the word that is due, 0 to 10. */
+static inline uint32_t hpsdr_hear(const uint8_t frame[HPSDR_FRAME], int16_t audio[HPSDR_AUDIO],
+                                  struct hpsdr_host *host) {
+    return hpsdr_host_read(frame, HPSDR_FRAME, audio, HPSDR_AUDIO, host, HPSDR_HOST_CELLS);
+}
+
+/* A host record and the word that is due, 0 to 10. BAD_STATE: a turn above 10. */
 struct hpsdr_builder {
     struct hpsdr_host host;
     uint32_t turn;
 };
+#define HPSDR_BUILDER_CELLS (sizeof(struct hpsdr_builder) / sizeof(uint32_t)) /* 63 */
 
-/* A fresh host record, and turn 0. Refusal: BAD_STATE. */
+/* A fresh host record, and turn 0. Refusal: BAD_STATE (too few cells). */
 uint32_t hpsdr_builder_fresh(struct hpsdr_builder *builder, size_t builder_cells);
 
-/* Writes the frame whose word is due, with the first 252 numbers of `audio`, and moves the turn on by one, 10
- * going to 0. The whole record is tested, whichever word is due. Refusals: BAD_STATE, LENGTH, SHORT_BUFFER, RANGE. */
+static inline void hpsdr_builder_init(struct hpsdr_builder *builder) {
+    hpsdr_builder_fresh(builder, HPSDR_BUILDER_CELLS);
+}
+
+/* Writes the frame whose word is due, with the first 252 numbers of `audio` in the order above, and moves the turn on
+ * by one, 10 going to 0; the host record stays as it is. All of it is tested, whichever word is due. Refusals:
+ * BAD_STATE, LENGTH, SHORT_BUFFER, RANGE. */
 uint32_t hpsdr_build(struct hpsdr_builder *builder, size_t builder_cells, const int16_t *audio, size_t audio_length,
                      uint8_t *frame, size_t frame_length);
 
+static inline uint32_t hpsdr_build_next(struct hpsdr_builder *builder, const int16_t audio[HPSDR_AUDIO],
+                                        uint8_t frame[HPSDR_FRAME]) {
+    return hpsdr_build(builder, HPSDR_BUILDER_CELLS, audio, HPSDR_AUDIO, frame, HPSDR_FRAME);
+}
+
 /* ---- the stream reader ---- */
 
-/* A stream record is these counts and 514 bytes, of which the first `held` are held and the others 0. */
+/* The numbers of bytes that are held, of frames handed out, of bytes skipped, and of all bytes fed. */
 struct hpsdr_counts {
     uint64_t held;
     uint64_t frames;
     uint64_t skipped;
     uint64_t total;
 };
+#define HPSDR_COUNTS_CELLS (sizeof(struct hpsdr_counts) / sizeof(uint64_t)) /* 4 */
 
-/* The record of a stream of which nothing has been read. Refusal: BAD_STATE. */
+/* A stream record: the counts and 514 bytes, of which the first counts.held are held and the others 0. The full forms
+ * take its two parts. A record that is not sound is BAD_STATE. */
+struct hpsdr_stream {
+    struct hpsdr_counts counts;
+    uint8_t held[HPSDR_HELD];
+};
+
+/* The record of a stream of which nothing has been read. Refusal: BAD_STATE (too few counts or bytes). */
 uint32_t hpsdr_stream_fresh(struct hpsdr_counts *counts, size_t counts_cells, uint8_t *held, size_t held_length);
 
+static inline void hpsdr_stream_init(struct hpsdr_stream *stream) {
+    hpsdr_stream_fresh(&stream->counts, HPSDR_COUNTS_CELLS, stream->held, HPSDR_HELD);
+}
+
 /* Whether a record is sound: at most 514 bytes held and the others 0, a total of at most 2^48, and 512 times the
- * frames, the skipped and the held bytes together the total. ACCEPTED, or BAD_STATE. */
+ * frames, the skipped and the held bytes together the total. The full form returns ACCEPTED, which is 0, if it is, and
+ * BAD_STATE if not; the short form 1 if it is, and 0 if not. */
 uint32_t hpsdr_stream_sound(const struct hpsdr_counts *counts, size_t counts_cells,
                             const uint8_t *held, size_t held_length);
 
-/* Reads the held bytes and then the piece. The frames found stand at the start of the output, 512 bytes each.
- * Found: their number, 0 to 8. Refusals: BAD_STATE, LENGTH, SHORT_BUFFER, STREAM_FULL. */
+static inline int hpsdr_stream_is_sound(const struct hpsdr_stream *stream) {
+    return hpsdr_stream_sound(&stream->counts, HPSDR_COUNTS_CELLS, stream->held, HPSDR_HELD) == HPSDR_ACCEPTED;
+}
+
+/* Reads the held bytes and then the piece, from where the reading stands. If sync stands there and again 512 bytes
+ * later, these 512 bytes are handed out as a frame and the reading goes on after them; if not, one byte is skipped.
+ * Where fewer than 515 bytes are left they are held for the next call. The frames handed out stand at the start of
+ * the output, 512 bytes each, and the rest of it is as before. Found: their number, 0 to 8. Refusals: BAD_STATE,
+ * LENGTH, SHORT_BUFFER, STREAM_FULL.
+ *
+ * The last frame. A frame is handed out only once the sync after it has come, so the last frame of a recording stays
+ * held. A caller who takes the recording for ended may feed 7F 7F 7F, once: if that frame is whole, and no false frame
+ * (see below) took its beginning, it is handed out. Fed a second time these bytes would fill in for bytes that the
+ * frame lacks. They count as fed.
+ *
+ * The place of a frame. With pieces of at most 512 bytes a call hands out at most one frame, and the bytes that this
+ * call skips stand before it. So after a call that found 1 on a stream that began fresh, the frame's place in all that
+ * was fed, counted from 0, is 512 * (counts.frames - 1) + counts.skipped.
+ *
+ * What no reader can know from the bytes. Sample bytes may imitate sync. Where 7F 7F 7F stands and again 512 bytes
+ * later, a frame is taken to begin, and if none did, what is handed out is a false frame: parts of two, say, after
+ * bytes were lost between. A good frame that begins inside it is then not handed out. So a frame directly before or
+ * after skipped bytes, or inside which another good frame begins, is in doubt, though it may be a true one. And where
+ * just 512 bytes were lost, or a multiple, there is no sign at all: no frame carries a number. */
 uint32_t hpsdr_stream_feed(struct hpsdr_counts *counts, size_t counts_cells, uint8_t *held, size_t held_length,
                            const uint8_t *piece, size_t piece_length, uint8_t *output, size_t output_length);
 
-/* The number of cells of a record, for the argument after it. */
-#define HPSDR_ROW_CELLS (sizeof(struct hpsdr_row) / sizeof(uint32_t))         /* 3 */
-#define HPSDR_STATUS_CELLS (sizeof(struct hpsdr_status) / sizeof(uint32_t))   /* 26 */
-#define HPSDR_HOST_CELLS (sizeof(struct hpsdr_host) / sizeof(uint32_t))       /* 62 */
-#define HPSDR_BUILDER_CELLS (sizeof(struct hpsdr_builder) / sizeof(uint32_t)) /* 63 */
-#define HPSDR_COUNTS_CELLS (sizeof(struct hpsdr_counts) / sizeof(uint64_t))   /* 4 */
+static inline uint32_t hpsdr_feed(struct hpsdr_stream *stream, const uint8_t *piece, size_t length,
+                                  uint8_t output[HPSDR_OUTPUT_LEAST]) {
+    return hpsdr_stream_feed(&stream->counts, HPSDR_COUNTS_CELLS, stream->held, HPSDR_HELD, piece, length, output,
+                             HPSDR_OUTPUT_LEAST);
+}
 
 #ifdef __cplusplus
 }

@@ -1,11 +1,12 @@
 #!/bin/sh
-# Builds the test of the C door and the example against the archive, and runs both, alone and under valgrind.
-# Says nothing unless something fails.
+# Builds the tests of the library from C and the examples against the archive, and runs the tests and peaks, alone and
+# under valgrind; the tests of the header's short forms as C++ too. Says nothing unless something fails.
 set -eu
 root=$(cd "$(dirname "$0")/.." && pwd)
-archive=$root/target/archive/libcapi.a
+archive=$root/target/archive/libhpsdr.a
 work=$(mktemp -d)
 trap 'rm -rf "$work"' EXIT
+warnings='-Wall -Wextra -Wpedantic -Wconversion -Wshadow -Wcast-qual -Werror'
 
 fail() {
     echo "c.sh: $*" >&2
@@ -13,57 +14,114 @@ fail() {
 }
 
 build() {
-    cc -std=c11 -Wall -Wextra -Wpedantic -Werror -O1 -g -I"$root/include" "$root/$1" "$archive" -o "$2" ||
-        fail "$1 does not build"
+    cc -std=c11 $warnings -O1 -g -I"$root/include" "$root/$1" "$archive" -o "$2" || fail "$1 does not build"
+}
+
+build_as_cpp() {
+    g++ -std=c++11 $warnings -O1 -g -I"$root/include" -x c++ "$root/$1" -x none "$archive" -o "$2" ||
+        fail "$1 does not build as C++"
+}
+
+# A program of $work and its arguments, alone and under valgrind.
+run() {
+    program=$1
+    shift
+    "$work/$program" "$@" || fail "tests/$program finds faults"
+    valgrind --error-exitcode=1 --leak-check=full -q "$work/$program" "$@" || fail "tests/$program under valgrind"
 }
 
 zeros() {
     dd if=/dev/zero bs="$1" count=1 2> "$work/dd" || fail "dd: $(cat "$work/dd")"
 }
 
-# A frame of C0 to C4 at 0, of so many zero bytes and then the given ones (in octal, four signs each), zeros up to the
-# last byte, and the last.
-frame() {
+# One frame of three receivers, whose slots have 20 bytes, and the sync of one more.
+extremes() {
     printf '\177\177\177\000\000\000\000\000'
-    [ "$1" -eq 0 ] || zeros "$1"
-    printf "$2"
-    zeros $((503 - $1 - ${#2} / 4))
-    printf "$3"
+    # Slot 0: 100 and -200; 8,388,607 and 0; -8,388,608 and 0; microphone 32,767.
+    printf '\000\000\144\377\377\070\177\377\377\000\000\000\200\000\000\000\000\000\177\377'
+    zeros $((23 * 20))
+    # Slot 24: -70,000 for the first; the rest of the slot and the padding are 0.
+    printf '\376\356\220'
+    zeros $((17 + 4))
+    printf '\177\177\177'
 }
 
-# Frames of three receivers, whose slots have 20 bytes and whose padding is the last 4, with a damaged middle:
-recording() {
-    # 100 and -200; 8,388,607 and 0; -8,388,608 and 0; microphone 32,767.
-    frame 0 '\000\000\144\377\377\070\177\377\377\000\000\000\200\000\000\000\000\000\177\377' '\000'
-    # 8,388,607 for the first, but padding that is not 0.
-    frame 0 '\177\377\377' '\001'
-    # The same, cut to 300 bytes.
-    frame 0 '\177\377\377' '\000' > "$work/whole"
-    dd if="$work/whole" bs=300 count=1 2> "$work/dd" || fail "dd: $(cat "$work/dd")"
-    for _ in 1 2 3 4 5 6 7 8; do
-        frame 0 '\000' '\000'
-    done
-    # In the last slot, at 24 times 20, -70,000 for the first.
-    frame 480 '\376\356\220' '\000'
-    # A beginning, which is held.
-    printf '\177\177\177\000\000\000\000\000\177\377\377'
-}
-
-# Read for three receivers.
-expected_of_three() {
+expected_of_extremes() {
     cat << 'END'
 receiver 1: peak 70000
 receiver 2: peak 8388607
 receiver 3: peak 8388608
-frames read 10, frames refused 1, bytes skipped 300
+frames read 1, frames refused 0, bytes skipped 0, bytes held 3
 END
 }
 
-# Read for one receiver there is no padding, and the second frame counts.
-expected_of_one() {
+# What is due for examples/recording.bin, which has twelve frames of three receivers: the fifth lacks six bytes, and its
+# 506 are skipped; the ninth has a padding byte that is not 0; the last is held. The samples are 25 slots of 20 bytes,
+# each 11 in its bytes 0 to 5, 22 in 6 to 11, 33 in 12 to 17, and 44 in 18 and 19.
+expected_of_3() {
+    cat << END
+receiver 1: peak $((0x111111))
+receiver 2: peak $((0x222222))
+receiver 3: peak $((0x333333))
+frames read 9, frames refused 1, bytes skipped 506, bytes held 512
+END
+}
+
+# With sync after it the last frame is read too.
+expected_of_3_with_sync() {
+    expected_of_3 | sed 's/frames read 9/frames read 10/; s/bytes held 512/bytes held 3/'
+}
+
+# Read for one receiver there is no padding, and the ninth counts. It begins with 7F FF FF, the largest there is.
+expected_of_1() {
+    cat << END
+receiver 1: peak $((0x7fffff))
+frames read 10, frames refused 0, bytes skipped 506, bytes held 512
+END
+}
+
+# Nor for two. Receiver 2's I in slot 8 begins at byte 8 * 14 + 6 = 118, which is byte 18 of a slot of 20: 44 44 11. No
+# other three bytes are more, but for the ninth's first, which are receiver 1's.
+expected_of_2() {
+    cat << END
+receiver 1: peak $((0x7fffff))
+receiver 2: peak $((0x444411))
+frames read 10, frames refused 0, bytes skipped 506, bytes held 512
+END
+}
+
+# For four the padding begins at byte 19 * 26 = 494, which is byte 14 of a slot of 20: 33. All ten frames are refused.
+expected_of_4() {
     cat << 'END'
-receiver 1: peak 8388607
-frames read 11, frames refused 0, bytes skipped 300
+receiver 1: peak 0
+receiver 2: peak 0
+receiver 3: peak 0
+receiver 4: peak 0
+frames read 0, frames refused 10, bytes skipped 506, bytes held 512
+END
+}
+
+# For eight the padding begins at byte 10 * 50 = 500, as for three, and the wrong count does not show. A slot of 50
+# begins at byte 0 or 10 of a slot of 20, so receiver r's values begin, with r from 0, at 6r, 6r + 3, 6r + 10 and
+# 6r + 13 modulo 20:
+#     r    begin at        the largest of them
+#     0    0, 3, 10, 13    at 13
+#     1    6, 9, 16, 19    at 19, which goes on at 0
+#     2    12, 15, 2, 5    at 12 and 15
+#     3    18, 1, 8, 11    at 18, which goes on at 0
+#     4    4, 7, 14, 17    at 17
+# and 5, 6 and 7 begin where 0, 1 and 2 do.
+expected_of_8() {
+    cat << END
+receiver 1: peak $((0x333333))
+receiver 2: peak $((0x441111))
+receiver 3: peak $((0x333333))
+receiver 4: peak $((0x444411))
+receiver 5: peak $((0x334444))
+receiver 6: peak $((0x333333))
+receiver 7: peak $((0x441111))
+receiver 8: peak $((0x333333))
+frames read 9, frames refused 1, bytes skipped 506, bytes held 512
 END
 }
 
@@ -77,31 +135,53 @@ peaks() {
 }
 
 check_output() {
-    "expected_of_$1" | diff - "$work/got" || fail "peaks for $1 receiver(s): \"<\" is expected, \">\" is printed"
+    "expected_of_$1" | diff - "$work/got" || fail "peaks, the output due of $1: \"<\" is expected, \">\" is printed"
 }
 
-[ -f "$archive" ] || fail "there is no $archive: make it with tests/archive.sh"
+[ -f "$archive" ] || fail "there is no $archive: make it with tools/archive.sh"
 build tests/door.c "$work/door"
+build tests/forms.c "$work/forms"
+build tests/recordings.c "$work/recordings"
+build_as_cpp tests/forms.c "$work/forms.cpp"
+build_as_cpp tests/recordings.c "$work/recordings.cpp"
 build examples/peaks.c "$work/peaks"
+# What these print stands in the README, and tests/readme.sh compares it.
+build examples/program.c "$work/program"
+build examples/send.c "$work/send"
+build_as_cpp examples/program.cc "$work/program.cc"
+for name in lost imitated stray; do
+    "$root/examples/recording.sh" "$name" > "$work/$name"
+done
 
-"$work/door" || fail "tests/door.c finds faults"
+run door
+run forms
+run forms.cpp
+run recordings "$work/lost" "$work/imitated" "$work/stray"
+run recordings.cpp "$work/lost" "$work/imitated" "$work/stray"
 
-recording > "$work/recording"
-peaks 1 3 < "$work/recording"
-check_output three
-peaks 0 1 < "$work/recording"
-check_output one
+recording=$root/examples/recording.bin
+cmp "$recording" "$work/lost" || fail "examples/recording.bin is not what examples/recording.sh makes"
+# The number of receivers, and the status: 1 where a frame is refused.
+for pair in 1:0 2:0 3:1 4:1 8:1; do
+    peaks "${pair#*:}" "${pair%:*}" < "$recording"
+    check_output "${pair%:*}"
+done
+{ cat "$recording" && printf '\177\177\177'; } > "$work/with_sync"
+peaks 1 3 < "$work/with_sync"
+check_output 3_with_sync
+extremes > "$work/extremes"
+peaks 0 3 < "$work/extremes"
+check_output extremes
 for argument in 0 9 '' 1x -1 12; do
-    peaks 2 "$argument" < "$work/recording"
+    peaks 2 "$argument" < "$recording"
     [ ! -s "$work/got" ] || fail "peaks prints for the argument '$argument'"
 done
-peaks 2 < "$work/recording"
-peaks 2 1 1 < "$work/recording"
+peaks 2 < "$recording"
+peaks 2 1 1 < "$recording"
 # A folder cannot be read.
 peaks 1 1 < "$work"
 [ -s "$work/complaint" ] || fail "peaks does not complain of a reading error"
 
-under_valgrind="valgrind --error-exitcode=1 --leak-check=full -q"
-$under_valgrind "$work/door" || fail "tests/door.c under valgrind"
-$under_valgrind "$work/peaks" 1 < "$work/recording" > "$work/got" || fail "peaks under valgrind"
-check_output one
+valgrind --error-exitcode=1 --leak-check=full -q "$work/peaks" 1 < "$recording" > "$work/got" ||
+    fail "peaks under valgrind"
+check_output 1

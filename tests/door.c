@@ -9,7 +9,7 @@
 #include <stdio.h>
 #include <string.h>
 
-enum { MOST_RECEIVERS = 8, MOST_IQ = 160, MOST_MIC = 63, LAST_WORD = 4, LAST_TURN = 10, FIRST_PAYLOAD = 8 };
+enum { LAST_WORD = 4, LAST_TURN = 10, FIRST_PAYLOAD = 8 };
 #define MOST_BYTES (UINT64_C(1) << 48)
 
 /* All that can be lent. Of each three the middle one is lent, and the other two are its guards. */
@@ -23,8 +23,8 @@ struct desk {
     uint8_t frame[3][HPSDR_FRAME + 1];
     uint8_t piece[3][HPSDR_PIECE_MOST + 1];
     uint8_t output[3][HPSDR_OUTPUT_LEAST];
-    int32_t iq[3][MOST_IQ];
-    int16_t mic[3][MOST_MIC];
+    int32_t iq[3][HPSDR_MOST_IQ];
+    int16_t mic[3][HPSDR_MOST_MIC];
     int16_t audio[3][HPSDR_AUDIO];
 };
 
@@ -45,10 +45,10 @@ struct numbers {
 static const struct numbers usual = {
     .row = HPSDR_ROW_CELLS, .status = HPSDR_STATUS_CELLS, .host = HPSDR_HOST_CELLS, .builder = HPSDR_BUILDER_CELLS,
     .counts = HPSDR_COUNTS_CELLS, .held = HPSDR_HELD, .frame = HPSDR_FRAME, .output = HPSDR_OUTPUT_LEAST,
-    .iq = MOST_IQ, .mic = MOST_MIC, .audio = HPSDR_AUDIO, .receivers = 1};
+    .iq = HPSDR_MOST_IQ, .mic = HPSDR_MOST_MIC, .audio = HPSDR_AUDIO, .receivers = 1};
 
-static const struct hpsdr_row rows[MOST_RECEIVERS] = {{8, 63, 0},   {14, 36, 0},  {20, 25, 4},  {26, 19, 10},
-                                                      {32, 15, 24}, {38, 13, 10}, {44, 11, 20}, {50, 10, 4}};
+static const struct hpsdr_row rows[HPSDR_MOST_RECEIVERS] = {
+    {8, 63, 0}, {14, 36, 0}, {20, 25, 4}, {26, 19, 10}, {32, 15, 24}, {38, 13, 10}, {44, 11, 20}, {50, 10, 4}};
 static const struct hpsdr_status fresh_status = {.io1 = 1, .io2 = 1, .io3 = 1, .io4 = 1};
 static const struct hpsdr_host fresh_host = {.receivers = 1};
 
@@ -149,7 +149,7 @@ static void set_control(uint8_t *frame, const uint8_t control[5]) { memcpy(frame
 /* ---- layout and fresh records ---- */
 
 static void test_layout(void) {
-    for (size_t receivers = 1; receivers <= MOST_RECEIVERS; receivers++) {
+    for (size_t receivers = 1; receivers <= HPSDR_MOST_RECEIVERS; receivers++) {
         set_out();
         pass.receivers = receivers;
         pass.row = receivers % 2 ? HPSDR_ROW_CELLS : HPSDR_ROW_CELLS + 2;
@@ -329,8 +329,8 @@ static void test_samples(size_t receivers, bool longer) {
     put_samples(&expected, receivers);
     run("radio read of samples", radio_read, HPSDR_ACCEPTED, 0);
     memset(lent.frame[1], 0xEE, HPSDR_FRAME);
-    if (longer && receivers < MOST_RECEIVERS)
-        lent.iq[1][MOST_IQ - 1] = INT32_MAX;
+    if (longer && receivers < HPSDR_MOST_RECEIVERS)
+        lent.iq[1][HPSDR_MOST_IQ - 1] = INT32_MAX;
     expect_unchanged();
     memset(expected.frame[1], 0, HPSDR_FRAME);
     memset(expected.frame[1], 0x7F, 3);
@@ -457,7 +457,7 @@ static void test_radio_read_refusals(void) {
 }
 
 static void test_sync_and_padding(void) {
-    for (size_t receivers = 1; receivers <= MOST_RECEIVERS; receivers++) {
+    for (size_t receivers = 1; receivers <= HPSDR_MOST_RECEIVERS; receivers++) {
         set_out();
         pass.receivers = receivers;
         for (size_t place = HPSDR_FRAME - rows[receivers - 1].padding; place < HPSDR_FRAME; place++) {
@@ -620,7 +620,7 @@ static void test_codes(void) {
             control[codes[at].byte] = (uint8_t)(code << codes[at].bit);
             test_host_cell(control, codes[at].cell, code);
         }
-    for (uint8_t receivers = 1; receivers <= MOST_RECEIVERS; receivers++)
+    for (uint8_t receivers = 1; receivers <= HPSDR_MOST_RECEIVERS; receivers++)
         test_host_cell((const uint8_t[]){0, 0, 0, 0, (uint8_t)((receivers - 1) << 3)}, HOST_CELL(receivers), receivers);
 }
 
@@ -890,7 +890,7 @@ int main(void) {
     test_fresh(2);
     test_too_few_cells();
     test_cells();
-    for (size_t receivers = 1; receivers <= MOST_RECEIVERS; receivers++) {
+    for (size_t receivers = 1; receivers <= HPSDR_MOST_RECEIVERS; receivers++) {
         test_samples(receivers, false);
         test_samples(receivers, true);
     }

@@ -1,0 +1,504 @@
+/* Calls each short form of the header and the full form beside it on the same input, accepted and refused, and compares
+ * what they return and all that they were lent with each other and with what is due. Then the places and ranges of
+ * samples, the limits of each field of a record, and the words for an answer. Prints a line for each fault, and exits 1
+ * if there is one. It is C and C++. */
+#include "faults.h"
+
+#include <hpsdr.h>
+
+#include <stdio.h>
+#include <string.h>
+
+#define MOST_BYTES (UINT64_C(1) << 48)
+
+/* All that can be lent, and the numbers that are passed. */
+struct desk {
+    struct hpsdr_row row;
+    struct hpsdr_status status;
+    struct hpsdr_host host;
+    struct hpsdr_builder builder;
+    struct hpsdr_stream stream;
+    struct hpsdr_samples samples;
+    uint8_t frame[512];
+    int16_t audio[252];
+    uint8_t piece[4097];
+    uint8_t output[4096];
+    size_t receivers, word, length;
+};
+
+static struct desk given, by_short, by_full;
+/* ---- the forms; the numbers of the full ones are written out ---- */
+
+static uint32_t short_row(struct desk *d) { return hpsdr_row_of(d->receivers, &d->row); }
+static uint32_t full_row(struct desk *d) { return hpsdr_layout(d->receivers, &d->row, 3); }
+static uint32_t short_status(struct desk *d) { return hpsdr_status_init(&d->status), 0; }
+static uint32_t full_status(struct desk *d) { return hpsdr_status_fresh(&d->status, 26); }
+static uint32_t short_read(struct desk *d) { return hpsdr_read(d->frame, d->receivers, &d->samples, &d->status); }
+static uint32_t full_read(struct desk *d) {
+    return hpsdr_radio_read(d->frame, 512, d->receivers, d->samples.iq, 160, d->samples.mic, 63, &d->status, 26);
+}
+static uint32_t short_write(struct desk *d) {
+    return hpsdr_write(&d->status, d->word, d->receivers, &d->samples, d->frame);
+}
+static uint32_t full_write(struct desk *d) {
+    return hpsdr_radio_write(&d->status, 26, d->word, d->receivers, d->samples.iq, 160, d->samples.mic, 63, d->frame,
+                             512);
+}
+static uint32_t short_host(struct desk *d) { return hpsdr_host_init(&d->host), 0; }
+static uint32_t full_host(struct desk *d) { return hpsdr_host_fresh(&d->host, 62); }
+static uint32_t short_hear(struct desk *d) { return hpsdr_hear(d->frame, d->audio, &d->host); }
+static uint32_t full_hear(struct desk *d) { return hpsdr_host_read(d->frame, 512, d->audio, 252, &d->host, 62); }
+static uint32_t short_builder(struct desk *d) { return hpsdr_builder_init(&d->builder), 0; }
+static uint32_t full_builder(struct desk *d) { return hpsdr_builder_fresh(&d->builder, 63); }
+static uint32_t short_build(struct desk *d) { return hpsdr_build_next(&d->builder, d->audio, d->frame); }
+static uint32_t full_build(struct desk *d) { return hpsdr_build(&d->builder, 63, d->audio, 252, d->frame, 512); }
+static uint32_t short_stream(struct desk *d) { return hpsdr_stream_init(&d->stream), 0; }
+static uint32_t full_stream(struct desk *d) { return hpsdr_stream_fresh(&d->stream.counts, 4, d->stream.held, 514); }
+static uint32_t short_sound(struct desk *d) {
+    return hpsdr_stream_is_sound(&d->stream) == 1 ? HPSDR_ACCEPTED : HPSDR_BAD_STATE;
+}
+static uint32_t full_sound(struct desk *d) { return hpsdr_stream_sound(&d->stream.counts, 4, d->stream.held, 514); }
+static uint32_t short_feed(struct desk *d) { return hpsdr_feed(&d->stream, d->piece, d->length, d->output); }
+static uint32_t full_feed(struct desk *d) {
+    return hpsdr_stream_feed(&d->stream.counts, 4, d->stream.held, 514, d->piece, d->length, d->output, 4096);
+}
+
+struct form {
+    const char *name;
+    uint32_t (*in_short)(struct desk *), (*in_full)(struct desk *);
+};
+static const struct form row = {"row_of", short_row, full_row};
+static const struct form status_init = {"status_init", short_status, full_status};
+static const struct form radio_read = {"read", short_read, full_read};
+static const struct form radio_write = {"write", short_write, full_write};
+static const struct form host_init = {"host_init", short_host, full_host};
+static const struct form hear = {"hear", short_hear, full_hear};
+static const struct form builder_init = {"builder_init", short_builder, full_builder};
+static const struct form build = {"build_next", short_build, full_build};
+static const struct form stream_init = {"stream_init", short_stream, full_stream};
+static const struct form sound = {"stream_is_sound", short_sound, full_sound};
+static const struct form feed = {"feed", short_feed, full_feed};
+
+/* Calls both forms on what is given. A refusal finds 0 and leaves all as it was. */
+static void both(const struct form *form, enum hpsdr_answer answer, uint32_t found, size_t number) {
+    memcpy(&by_short, &given, sizeof given);
+    memcpy(&by_full, &given, sizeof given);
+    const uint32_t got = form->in_short(&by_short);
+    check(hpsdr_answer_of(got) == answer, form->name, "the answer is another", number);
+    check(hpsdr_found_in(got) == found, form->name, "what is found is another", number);
+    check(form->in_full(&by_full) == got, form->name, "the full form returns another", number);
+    check(memcmp(&by_short, &by_full, sizeof given) == 0, form->name, "the full form leaves another", number);
+    if (answer != HPSDR_ACCEPTED)
+        check(memcmp(&by_short, &given, sizeof given) == 0, form->name, "a refusal leaves a change", number);
+}
+
+static void refuse(const struct form *form, enum hpsdr_answer answer, size_t number) { both(form, answer, 0, number); }
+
+/* Noise, but for fresh records, I and Q that fit, and a frame of sync and zeros; one receiver. */
+static void set_out(void) {
+    uint8_t *bytes = (uint8_t *)&given;
+    for (size_t at = 0; at < sizeof given; at++)
+        bytes[at] = (uint8_t)(at * 31 + at / 256 + 7);
+    memset(&given.status, 0, sizeof given.status);
+    given.status.io1 = given.status.io2 = given.status.io3 = given.status.io4 = 1;
+    memset(&given.host, 0, sizeof given.host);
+    given.host.receivers = 1;
+    memset(&given.builder, 0, sizeof given.builder);
+    given.builder.host.receivers = 1;
+    memset(&given.stream.counts, 0, sizeof given.stream.counts);
+    memset(given.stream.held, 0, sizeof given.stream.held);
+    for (size_t at = 0; at < 160; at++)
+        given.samples.iq[at] = (int32_t)at * 100003 - 8000000;
+    memset(given.frame, 0, sizeof given.frame);
+    memset(given.frame, 0x7F, 3);
+    given.receivers = 1;
+    given.word = 0;
+    given.length = 0;
+}
+
+/* ---- each form on accepted and refused input ---- */
+
+static void test_row(void) {
+    static const uint32_t rows[8][3] = {{8, 63, 0},   {14, 36, 0},  {20, 25, 4},  {26, 19, 10},
+                                        {32, 15, 24}, {38, 13, 10}, {44, 11, 20}, {50, 10, 4}};
+    set_out();
+    for (size_t n = 1; n <= 8; n++) {
+        given.receivers = n;
+        both(&row, HPSDR_ACCEPTED, 0, n);
+        check(memcmp(&by_short.row, rows[n - 1], sizeof rows[0]) == 0, "row_of", "the row is another", n);
+    }
+    static const size_t wrong[] = {0, 9, SIZE_MAX};
+    for (size_t at = 0; at < 3; at++) {
+        given.receivers = wrong[at];
+        refuse(&row, HPSDR_BAD_COUNT, wrong[at]);
+        refuse(&radio_read, HPSDR_BAD_COUNT, wrong[at]);
+        refuse(&radio_write, HPSDR_BAD_COUNT, wrong[at]);
+    }
+}
+
+/* Over records of noise. */
+static void test_inits(void) {
+    set_out();
+    const struct desk fresh = given;
+    memset(&given.status, 0xFF, sizeof given.status);
+    memset(&given.host, 0xFF, sizeof given.host);
+    memset(&given.builder, 0xFF, sizeof given.builder);
+    memset(&given.stream.counts, 0xFF, sizeof given.stream.counts);
+    memset(given.stream.held, 0xFF, sizeof given.stream.held);
+    both(&status_init, HPSDR_ACCEPTED, 0, 0);
+    check(memcmp(&by_short.status, &fresh.status, sizeof fresh.status) == 0, "status_init", "the record is another", 0);
+    both(&host_init, HPSDR_ACCEPTED, 0, 0);
+    check(memcmp(&by_short.host, &fresh.host, sizeof fresh.host) == 0, "host_init", "the record is another", 0);
+    both(&builder_init, HPSDR_ACCEPTED, 0, 0);
+    check(memcmp(&by_short.builder, &fresh.builder, sizeof fresh.builder) == 0, "builder_init",
+          "the record is another", 0);
+    refuse(&sound, HPSDR_BAD_STATE, 0);
+    both(&stream_init, HPSDR_ACCEPTED, 0, 0);
+    check(memcmp(&by_short.stream.counts, &fresh.stream.counts, sizeof fresh.stream.counts) == 0, "stream_init",
+          "the counts are others", 0);
+    check(memcmp(by_short.stream.held, fresh.stream.held, sizeof fresh.stream.held) == 0, "stream_init",
+          "the held bytes are others", 0);
+}
+
+static void test_read(void) {
+    for (size_t n = 1; n <= 8; n++) {
+        set_out();
+        given.receivers = n;
+        for (uint32_t address = 0; address < 32; address++) {
+            given.frame[3] = (uint8_t)(address << 3 | 5);
+            given.frame[4] = 0xFF;
+            both(&radio_read, HPSDR_ACCEPTED, address, n);
+            check(by_short.status.dot == 1 && by_short.status.dash == 0 && by_short.status.ptt == 1, "read",
+                  "the keys are others", n);
+        }
+        given.frame[511] = 1;
+        both(&radio_read, n < 3 ? HPSDR_ACCEPTED : HPSDR_PADDING, n < 3 ? 31 : 0, n);
+        given.frame[2] = 0x7E;
+        refuse(&radio_read, HPSDR_NO_SYNC, n);
+        given.status.pll = 2;
+        refuse(&radio_read, HPSDR_BAD_STATE, n);
+    }
+}
+
+/* Writes the samples that are given, and reads them again over zeros. */
+static void write_and_read(void) {
+    const size_t n = given.receivers, slots = 504 / (6 * n + 2);
+    const struct hpsdr_samples sent = given.samples;
+    given.status.ptt = 1;
+    both(&radio_write, HPSDR_ACCEPTED, 0, n);
+    given.status.ptt = 0;
+    memcpy(given.frame, by_short.frame, 512);
+    memset(&given.samples, 0, sizeof given.samples);
+    both(&radio_read, HPSDR_ACCEPTED, (uint32_t)given.word, n);
+    check(memcmp(by_short.samples.iq, sent.iq, 2 * n * slots * sizeof(int32_t)) == 0, "write", "I and Q are lost", n);
+    check(memcmp(by_short.samples.mic, sent.mic, slots * sizeof(int16_t)) == 0, "write", "the microphone is lost", n);
+    check(by_short.status.ptt == 1, "write", "PTT is lost", n);
+    given.samples = sent;
+}
+
+static void test_write(void) {
+    set_out();
+    for (given.receivers = 1; given.receivers <= 8; given.receivers++)
+        for (given.word = 0; given.word <= 4; given.word++)
+            write_and_read();
+    given.receivers = 8;
+    given.word = 5;
+    refuse(&radio_write, HPSDR_RANGE, 5);
+    given.word = SIZE_MAX;
+    refuse(&radio_write, HPSDR_RANGE, SIZE_MAX);
+}
+
+static void test_hear_and_build(void) {
+    int16_t sent[252];
+    set_out();
+    memcpy(sent, given.audio, sizeof sent);
+    given.builder.host.mox = 1;
+    for (uint32_t turn = 0; turn <= 10; turn++) {
+        given.builder.turn = turn;
+        both(&build, HPSDR_ACCEPTED, 0, turn);
+        check(by_short.builder.turn == (turn == 10 ? 0 : turn + 1), "build_next", "the turn is another", turn);
+        memcpy(given.frame, by_short.frame, 512);
+        memset(given.audio, 0, sizeof sent);
+        both(&hear, HPSDR_ACCEPTED, turn, turn);
+        check(by_short.host.mox == 1, "hear", "MOX is lost", turn);
+        check(memcmp(by_short.audio, sent, sizeof sent) == 0, "hear", "the audio is another", turn);
+        memcpy(given.audio, sent, sizeof sent);
+    }
+    given.frame[3] = 127 << 1;
+    both(&hear, HPSDR_ACCEPTED, 127, 127);
+    given.frame[3] = 10 << 1;
+    given.frame[4] = 0x80;
+    refuse(&hear, HPSDR_RESERVED, 10);
+    given.frame[0] = 0;
+    refuse(&hear, HPSDR_NO_SYNC, 0);
+    given.host.mox = 2;
+    refuse(&hear, HPSDR_BAD_STATE, 0);
+}
+
+static void test_stream(void) {
+    static const size_t lengths[] = {0, 1, 514, 515, 4096};
+    static const uint32_t found[] = {0, 0, 0, 1, 7};
+    set_out();
+    for (size_t place = 0; place < 4097; place++)
+        given.piece[place] = place % 512 < 3 ? 0x7F : (uint8_t)(place / 512);
+    for (size_t at = 0; at < 5; at++) {
+        given.length = lengths[at];
+        both(&feed, HPSDR_ACCEPTED, found[at], lengths[at]);
+        check(memcmp(by_short.output, given.piece, 512 * found[at]) == 0, "feed", "the frames are others", lengths[at]);
+        check(memcmp(by_short.stream.held, given.piece + 512 * found[at], lengths[at] - 512 * found[at]) == 0, "feed",
+              "the held bytes are others", lengths[at]);
+        both(&sound, HPSDR_ACCEPTED, 0, lengths[at]);
+    }
+    given.length = 4097;
+    refuse(&feed, HPSDR_LENGTH, 4097);
+    given.length = 1;
+    given.stream.counts.skipped = given.stream.counts.total = MOST_BYTES;
+    both(&sound, HPSDR_ACCEPTED, 0, 0);
+    refuse(&feed, HPSDR_STREAM_FULL, 0);
+    given.stream.held[513] = 1;
+    refuse(&sound, HPSDR_BAD_STATE, 513);
+    refuse(&feed, HPSDR_BAD_STATE, 513);
+    given.stream.held[513] = 0;
+    given.stream.counts.held = 1;
+    refuse(&sound, HPSDR_BAD_STATE, 1);
+    refuse(&feed, HPSDR_BAD_STATE, 1);
+}
+
+/* ---- samples ---- */
+
+/* Receiver r's I in slot t has the bytes r + 1, t, 11, its Q 80 more, t, 22, and the slot's microphone value t, 33. */
+static void test_places(size_t n) {
+    set_out();
+    given.receivers = n;
+    const size_t slots = 504 / (6 * n + 2);
+    uint8_t *place = given.frame + 8;
+    for (size_t t = 0; t < slots; t++) {
+        for (size_t r = 0; r < n; r++, place += 6) {
+            const uint8_t pair[] = {(uint8_t)(r + 1), (uint8_t)t, 0x11, (uint8_t)(r + 0x81), (uint8_t)t, 0x22};
+            memcpy(place, pair, 6);
+        }
+        *place++ = (uint8_t)t;
+        *place++ = 0x33;
+    }
+    both(&radio_read, HPSDR_ACCEPTED, 0, n);
+    const struct hpsdr_samples *samples = &by_short.samples;
+    for (size_t t = 0; t < slots; t++) {
+        for (size_t r = 0; r < n; r++) {
+            const int32_t i = (int32_t)(65536 * (r + 1) + 256 * t + 0x11);
+            const int32_t q = (int32_t)(65536 * (r + 1) + 256 * t + 0x22) - 8388608;
+            check(hpsdr_i(samples, n, r, t) == i && samples->iq[2 * (t * n + r)] == i, "I", "it is another", r);
+            check(hpsdr_q(samples, n, r, t) == q && samples->iq[2 * (t * n + r) + 1] == q, "Q", "it is another", r);
+        }
+        check(samples->mic[t] == (int16_t)(256 * t + 0x33), "microphone", "it is another", t);
+    }
+    check(memcmp(samples->iq + 2 * n * slots, given.samples.iq + 2 * n * slots,
+                 (160 - 2 * n * slots) * sizeof(int32_t)) == 0, "iq", "what stands after the values is changed", n);
+    check(memcmp(samples->mic + slots, given.samples.mic + slots, (63 - slots) * sizeof(int16_t)) == 0, "mic",
+          "what stands after the values is changed", n);
+}
+
+/* The ends of the ranges come back, and one past an end is RANGE, in each value of the frame and not after them. */
+static void test_sample_range(size_t n) {
+    const size_t values = 2 * n * (504 / (6 * n + 2));
+    set_out();
+    given.receivers = n;
+    for (size_t at = 0; at < 160; at++)
+        given.samples.iq[at] = at < values ? (at % 2 ? -8388608 : 8388607) : INT32_MAX;
+    for (size_t at = 0; at < 63; at++)
+        given.samples.mic[at] = at % 2 ? -32768 : 32767;
+    write_and_read();
+    for (size_t at = 0; at < values; at++) {
+        given.samples.iq[at] += at % 2 ? -1 : 1;
+        refuse(&radio_write, HPSDR_RANGE, at);
+        given.samples.iq[at] -= at % 2 ? -1 : 1;
+    }
+}
+
+/* A wrong number of receivers: the frame of three has zeros in its last four bytes, where eight have their padding, and
+ * samples where four to seven have some of theirs. */
+static void test_wrong_count(void) {
+    static const enum hpsdr_answer due[] = {HPSDR_ACCEPTED, HPSDR_ACCEPTED, HPSDR_ACCEPTED, HPSDR_PADDING,
+                                            HPSDR_PADDING,  HPSDR_PADDING,  HPSDR_PADDING,  HPSDR_ACCEPTED};
+    set_out();
+    memset(given.frame + 8, 0x11, 500);
+    for (size_t n = 1; n <= 8; n++) {
+        given.receivers = n;
+        both(&radio_read, due[n - 1], 0, n);
+    }
+}
+
+/* ---- the limits of each field ---- */
+
+enum { ANY = -1 };
+
+struct field {
+    const char *name;
+    size_t place;
+    int32_t cell, frame; /* the most that the cell holds, and a frame */
+};
+
+#define FIELD(member, cell, frame) {#member, offsetof(struct hpsdr_status, member), cell, frame}
+#define FLAG(member) FIELD(member, 1, 1)
+static const struct field status_fields[] = {
+    FLAG(dot), FLAG(dash), FLAG(ptt), FLAG(adc1), FLAG(adc2), FLAG(adc3), FLAG(adc4), FLAG(io1), FLAG(io2), FLAG(io3),
+    FLAG(io4), FLAG(pll), FLAG(toggle), FIELD(mercury, 255, 255), FIELD(penelope, 255, 255), FIELD(main, 255, 255),
+    FIELD(ain5, 65535, 65535), FIELD(ain1, 65535, 65535), FIELD(ain2, 65535, 65535), FIELD(ain3, 65535, 65535),
+    FIELD(ain4, 65535, 65535), FIELD(ain6, 65535, 65535), FIELD(board1, 255, 127), FIELD(board2, 255, 127),
+    FIELD(board3, 255, 127), FIELD(board4, 255, 127)};
+#undef FIELD
+#define FIELD(member, cell, frame) {#member, offsetof(struct hpsdr_host, member), cell, frame}
+static const struct field host_fields[] = {
+    FLAG(mox), FIELD(speed, HPSDR_384_KHZ, 3), FIELD(source10, HPSDR_10_MERCURY, 2),
+    FIELD(source122, HPSDR_122_MERCURY, 1), FIELD(boards, HPSDR_BOTH_BOARDS, 3),
+    FIELD(microphone, HPSDR_MICROPHONE_PENELOPE, 1), FLAG(class_e), FIELD(outputs, 255, 127),
+    FIELD(attenuator, HPSDR_30_DB, 3), FLAG(preamp), FLAG(dither), FLAG(random), FIELD(antenna, HPSDR_ANTENNA_XV, 3),
+    FLAG(rx_out), FIELD(relay, HPSDR_TX3, 2), FLAG(duplex), FIELD(receivers, 255, 8), FLAG(time_stamp),
+    FLAG(common_frequency), FIELD(transmitter, ANY, ANY), FIELD(frequencies[0], ANY, ANY),
+    FIELD(frequencies[1], ANY, ANY), FIELD(frequencies[2], ANY, ANY), FIELD(frequencies[3], ANY, ANY),
+    FIELD(frequencies[4], ANY, ANY), FIELD(frequencies[5], ANY, ANY), FIELD(frequencies[6], ANY, ANY),
+    FIELD(drive, 255, 255), FLAG(mic_boost), FLAG(line_in), FLAG(apollo_filter), FLAG(apollo_tuner), FLAG(auto_tune),
+    FLAG(filter_board), FLAG(manual_filters), FLAG(vna), FLAG(high_pass_13), FLAG(high_pass_20), FLAG(high_pass_9_5),
+    FLAG(high_pass_6_5), FLAG(high_pass_1_5), FLAG(bypass), FLAG(amplifier_6m), FLAG(tr_disabled),
+    FLAG(low_pass_30_20), FLAG(low_pass_60_40), FLAG(low_pass_80), FLAG(low_pass_160), FLAG(low_pass_6),
+    FLAG(low_pass_12_10), FLAG(low_pass_17_15), FLAG(rx_preamps[0]), FLAG(rx_preamps[1]), FLAG(rx_preamps[2]),
+    FLAG(rx_preamps[3]), FIELD(orion_jack, HPSDR_PTT_TO_TIP, 1), FLAG(mic_bias), FLAG(mic_ptt_disabled),
+    FIELD(line_in_gain, 255, 31), FIELD(word10_c2_top, 255, 7), FIELD(word10_c3, 255, 255),
+    FIELD(word10_c4, 255, 255)};
+
+static void put(void *record, const struct field *field, uint32_t value) {
+    memcpy((uint8_t *)record + field->place, &value, sizeof value);
+}
+
+static uint32_t get(const void *record, const struct field *field) {
+    uint32_t value;
+    memcpy(&value, (const uint8_t *)record + field->place, sizeof value);
+    return value;
+}
+
+/* A value that the cell holds: a reader of an unlisted word keeps it, and a writer says RANGE if it is above what the
+ * frame has, whichever word it writes. */
+static void status_holds(const struct field *field, uint32_t value) {
+    put(&given.status, field, value);
+    both(&radio_read, HPSDR_ACCEPTED, 31, value);
+    check(get(&by_short.status, field) == value, field->name, "a reader does not keep it", value);
+    for (given.word = 0; given.word <= 4; given.word++)
+        both(&radio_write, value <= (uint32_t)field->frame ? HPSDR_ACCEPTED : HPSDR_RANGE, 0, value);
+}
+
+static void status_lacks(const struct field *field, uint32_t value) {
+    put(&given.status, field, value);
+    given.word = 5;
+    refuse(&radio_read, HPSDR_BAD_STATE, value);
+    refuse(&radio_write, HPSDR_BAD_STATE, value);
+}
+
+static void test_status_fields(void) {
+    for (size_t at = 0; at < 26; at++) {
+        const struct field *field = &status_fields[at];
+        check(field->place == 4 * at, field->name, "the field is not at this place", at);
+        set_out();
+        given.frame[3] = 31 << 3 | 7;
+        status_holds(field, (uint32_t)field->frame);
+        status_holds(field, (uint32_t)field->cell);
+        if (field->frame < field->cell)
+            status_holds(field, (uint32_t)field->frame + 1);
+        status_lacks(field, (uint32_t)field->cell + 1);
+        status_lacks(field, UINT32_MAX);
+    }
+}
+
+/* The same for a host record, with the answer that is due for it from a build. */
+static void host_holds(const struct field *field, uint32_t value, enum hpsdr_answer due) {
+    put(&given.host, field, value);
+    put(&given.builder.host, field, value);
+    both(&hear, HPSDR_ACCEPTED, 127, value);
+    check(get(&by_short.host, field) == value, field->name, "a reader does not keep it", value);
+    for (given.builder.turn = 0; given.builder.turn <= 10; given.builder.turn++)
+        both(&build, due, 0, value);
+}
+
+static void host_lacks(const struct field *field, uint32_t value) {
+    put(&given.host, field, value);
+    put(&given.builder.host, field, value);
+    given.builder.turn = 0;
+    refuse(&hear, HPSDR_BAD_STATE, value);
+    refuse(&build, HPSDR_BAD_STATE, value);
+}
+
+static void test_host_fields(void) {
+    for (size_t at = 0; at < 62; at++) {
+        const struct field *field = &host_fields[at];
+        check(field->place == 4 * at, field->name, "the field is not at this place", at);
+        set_out();
+        given.frame[3] = 127 << 1 | 1;
+        host_holds(field, (uint32_t)field->frame, HPSDR_ACCEPTED);
+        if (field->cell == ANY)
+            continue;
+        if (field->frame < field->cell) {
+            host_holds(field, (uint32_t)field->frame + 1, HPSDR_RANGE);
+            host_holds(field, (uint32_t)field->cell, HPSDR_RANGE);
+        }
+        host_lacks(field, (uint32_t)field->cell + 1);
+        host_lacks(field, UINT32_MAX);
+    }
+}
+
+static void test_least_receivers_and_turns(void) {
+    set_out();
+    given.host.receivers = given.builder.host.receivers = 0;
+    refuse(&build, HPSDR_RANGE, 0);
+    given.frame[3] = 127 << 1;
+    both(&hear, HPSDR_ACCEPTED, 127, 0);
+    check(by_short.host.receivers == 0, "hear", "0 receivers are not kept", 0);
+    static const uint32_t turns[] = {11, 255, 256, UINT32_MAX};
+    for (size_t at = 0; at < 4; at++) {
+        given.builder.turn = turns[at];
+        refuse(&build, HPSDR_BAD_STATE, turns[at]);
+    }
+}
+
+/* ---- the words for an answer ---- */
+
+static void test_words(void) {
+    static const struct {
+        uint32_t answer;
+        const char *name, *sentence;
+    } words[] = {{0, "ACCEPTED", "the call did its work"},
+                 {1, "BAD_STATE", "the stream record is unsound, the turn is above 10, or cells hold no record"},
+                 {2, "BAD_COUNT", "the receiver count is not 1 to 8"},
+                 {3, "LENGTH", "the frame is not 512 bytes, or the piece is above 4,096"},
+                 {4, "SHORT_BUFFER", "a sample slice is shorter than needed, or the output is under 4,096 bytes"},
+                 {5, "STREAM_FULL", "more than 2^48 bytes would have been fed"},
+                 {6, "NO_SYNC", "the frame's first three bytes are not 7F 7F 7F"},
+                 {7, "PADDING", "a padding byte is not 0"},
+                 {8, "RESERVED", "an unassigned host code or bit is set"},
+                 {9, "RANGE", "a value to be written does not fit"},
+                 {10, "?", "this number is no answer"},
+                 {255, "?", "this number is no answer"},
+                 {256, "?", "this number is no answer"},
+                 {UINT32_MAX, "?", "this number is no answer"}};
+    for (size_t at = 0; at < sizeof words / sizeof *words; at++) {
+        check(strcmp(hpsdr_answer_name(words[at].answer), words[at].name) == 0, words[at].name, "not its name", at);
+        check(strcmp(hpsdr_answer_sentence(words[at].answer), words[at].sentence) == 0, words[at].name,
+              "not its sentence", at);
+    }
+}
+
+int main(void) {
+    test_row();
+    test_inits();
+    test_read();
+    test_write();
+    test_hear_and_build();
+    test_stream();
+    for (size_t n = 1; n <= 8; n++) {
+        test_places(n);
+        test_sample_range(n);
+    }
+    test_wrong_count();
+    test_status_fields();
+    test_host_fields();
+    test_least_receivers_and_turns();
+    test_words();
+    return faults ? 1 : 0;
+}
