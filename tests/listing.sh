@@ -2,11 +2,8 @@
 # Runs ./list on inputs at the edges of document 01's "The listing program", and compares what it
 # prints with rows that were worked out from that document by hand, or are made here from the columns
 # that the frame was built to have. POSIX sh and awk.
-set -eu
-cd "$(dirname "$0")/.."
-room=$(mktemp -d)
-trap 'rm -rf "$room"' EXIT
-tried=0
+program=./list
+. "$(dirname "$0")/program.sh"
 
 # digits N D: the digit D, N times
 digits() {
@@ -18,18 +15,6 @@ lists() { # WHAT
     ./list <"$room/in" >"$room/got" || fails "$1" "./list ended with status $?"
     cmp -s "$room/got" "$room/rows" || fails "$1" "$(diff "$room/got" "$room/rows" | head -n 4)"
     tried=$((tried + 1))
-}
-
-# ./list ended as it must where it cannot go on: with a status that is not 0, and this line.
-says() { # WHAT STATUS LINE
-    [ "$2" -ne 0 ] || fails "$1" "./list ended with status 0"
-    [ "$(cat "$room/said")" = "$3" ] || fails "$1" "./list said: $(cat "$room/said")"
-    tried=$((tried + 1))
-}
-
-fails() {
-    printf 'tests/listing.sh: %s: %s\n' "$1" "$2" >&2
-    exit 1
 }
 
 rows() { printf '%s\n' "$@" >"$room/rows"; }
@@ -118,24 +103,5 @@ rows '1 0 1 1 0 0'
 cmp -s "$room/got" "$room/rows" || fails 'a line in two pieces' "$(head -n 4 "$room/got")"
 tried=$((tried + 1))
 
-# Where it cannot go on it ends: an input that cannot be read (a directory), and outputs that take
-# nothing more.
-status=0
-./list <"$room" >"$room/got" 2>"$room/said" || status=$?
-says 'an input that cannot be read' "$status" 'listing: the input cannot be read'
-
-if [ -c /dev/full ]; then
-    status=0
-    ./list <"$room/in" >/dev/full 2>"$room/said" || status=$?
-    says 'an output that is full' "$status" 'listing: the output cannot be written'
-fi
-
-(
-    trap '' PIPE
-    status=0
-    ./list <"$room/in" 2>"$room/said" || status=$?
-    echo "$status" >"$room/status"
-) | :
-says 'an output that is closed' "$(cat "$room/status")" 'listing: the output cannot be written'
-
+ends listing "$room/in"
 echo "tests/listing.sh: $tried inputs are listed as they must be"

@@ -1,4 +1,5 @@
--- Document 01's example of the listing, and lines that look like frames and are none, by the definitions alone. Assumes nothing.
+-- Document 01's example of the listing, lines that look like frames and are none, and a closing line, by the definitions alone. Assumes
+-- nothing.
 use mathlib.Core.Path.{_≡_, refl, ap, _∙_}
 use mathlib.Core.Bool.{true, false}
 use mathlib.Core.List.{List, [], _∷_, _++_, map}
@@ -8,6 +9,7 @@ use Rattle.wire.specs.declared.Answer.the-variants.{Accepted, Length, NoSync}
 use Rattle.hexline.proofs.Split.{unbroken, line-first}
 use Rattle.hexline.specs.Lines.{Content, aFrame, noFrame, lines, contentOf, newline}
 use Rattle.hexline.specs.Printed.{decimalIn, decimalOf, textOf}
+use Rattle.hexline.specs.Tally.{tallyText}
 
 -- the digits `7f7f7f0c01f40000`, of which line 2 differs in the second, and 1,008 zeros
 abbrev start : ℕ → List ℕ
@@ -57,3 +59,12 @@ three-rows = refl
 -- 1,023 digits, 1,025, an `F` among them, and a carriage return after them
 pub near-misses : map contentOf (zeros 1023 ∷ zeros 1025 ∷ (0x46 ∷ zeros 1023) ∷ (zeros 1024 ++ (0x0d ∷ [])) ∷ []) ≡ noFrame ∷ noFrame ∷ noFrame ∷ noFrame ∷ []
 near-misses = refl
+
+-- "frames: handed out 10, bytes skipped 506, bytes held 512"
+pub closing-line : tallyText 10 506 512
+    ≡ (0x66 ∷ 0x72 ∷ 0x61 ∷ 0x6d ∷ 0x65 ∷ 0x73 ∷ 0x3a ∷ 0x20 ∷ 0x68 ∷ 0x61 ∷ 0x6e ∷ 0x64 ∷ 0x65 ∷ 0x64 ∷ 0x20 ∷ 0x6f ∷ 0x75 ∷ 0x74 ∷ 0x20 ∷ 0x31 ∷ 0x30
+    ∷ 0x2c ∷ 0x20 ∷ 0x62 ∷ 0x79 ∷ 0x74 ∷ 0x65 ∷ 0x73 ∷ 0x20 ∷ 0x73 ∷ 0x6b ∷ 0x69 ∷ 0x70 ∷ 0x70 ∷ 0x65 ∷ 0x64 ∷ 0x20 ∷ 0x35 ∷ 0x30 ∷ 0x36
+    ∷ 0x2c ∷ 0x20 ∷ 0x62 ∷ 0x79 ∷ 0x74 ∷ 0x65 ∷ 0x73 ∷ 0x20 ∷ 0x68 ∷ 0x65 ∷ 0x6c ∷ 0x64 ∷ 0x20 ∷ 0x35 ∷ 0x31 ∷ 0x32 ∷ 0x0a
+    ∷ [])
+unfolding decimalIn decimalOf tallyText
+closing-line = refl

@@ -4,6 +4,7 @@ pub mod Steps
 pub mod Puts
 pub mod Decimal
 pub mod Columns
+pub mod Tallied
 pub mod Present
 pub mod Bytewise
 pub mod Cut

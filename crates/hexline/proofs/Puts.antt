@@ -5,10 +5,10 @@ use Prim.Native.Nat.{ℕ, _+_, _<_, _≤_}
 use native.Mathlib.Nat.{zero-add}
 use native.Mathlib.Numerals.{add-one}
 use native.Mathlib.Omega.{arith}
-use lib.ListN.{length, getD, take, set, length-append}
+use lib.ListN.{length, getD, take, drop, set, length-append}
 use lib.Seq.{sets-eq, length-sets, take-suc, take-all, length-take-le}
 use Rattle.wire.proofs.Lists.{sets-append}
-use Rattle.hexline.specs.Printed.{gave, written}
+use Rattle.hexline.specs.Printed.{Written, gave, written}
 use Rattle.hexline.specs.Put.{Put}
 
 module _ (out : List ℕ) (at : ℕ) where
@@ -48,3 +48,10 @@ put-copied out at text i after over inside done = rw (take-all i text over) at d
 pub put-whole : (out text : List ℕ) (next : ℕ) (after : List ℕ) → length text ≤ length out → Put out 0 text next after → gave next after ≡ written text out
 put-whole out text next after room done =
     rw (done .place, done .stored, sets-eq text out 0 (omega arith), zero-add (length text))
+
+-- what is written is inside the slice
+pub written-inside : (text out : List ℕ) (r : ℕ) (after : List ℕ) → gave r after ≡ written text out → r ≤ length after
+written-inside text out r after e =
+    let count-is : r ≡ length text = ap (λ (w : Written). w .count) e in
+    let out-is : after ≡ text ++ drop (length text) out = ap (λ (w : Written). w .out) e in
+    omega (arith, ap length out-is, length-append text (drop (length text) out))

@@ -6,6 +6,7 @@ use Prim.Native.Nat.{ℕ}
 use Rattle.wire.specs.declared.Answer.{Answer}
 use Rattle.hexline.specs.Printed.{Written, rowOf}
 use Rattle.hexline.specs.Reader.{freshReader, takeOf, endOf}
+use Rattle.hexline.specs.Tally.{tallyOf}
 use Rattle.hexline.specs.declared.Reader.{Reader}
 use Rattle.hexline.specs.declared.Taken.{Taken}
 use Rattle.wire.proofs.Settled.{settled}
@@ -23,3 +24,6 @@ end-settled given r s = settled
 pub row-settled : (number : ℕ) (answer : Answer) (address : ℕ) (dot dash ptt : Bool) (out : List ℕ) (r s : Written)
     → r ≡ rowOf number answer address dot dash ptt out → s ≡ rowOf number answer address dot dash ptt out → r ≡ s
 row-settled number answer address dot dash ptt out r s = settled
+
+pub tally-settled : (frames skipped held : ℕ) (out : List ℕ) (r s : Written) → r ≡ tallyOf frames skipped held out → s ≡ tallyOf frames skipped held out → r ≡ s
+tally-settled frames skipped held out r s = settled

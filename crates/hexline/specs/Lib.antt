@@ -3,4 +3,5 @@ pub mod Lines
 pub mod Reader
 pub mod Text
 pub mod Printed
+pub mod Tally
 pub mod Put

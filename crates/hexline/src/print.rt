@@ -1,14 +1,19 @@
-// The row that a listing prints for a line of the text.
+// What is printed: the row of a listing for a line of the text, and the line that closes a reading of
+// a stream.
 use wire::Answer;
 ghost use mathlib.Core.Path.{_≡_};
-ghost use mathlib.Core.List.{_∷_};
+ghost use mathlib.Core.List.{_∷_, _++_};
 ghost use Prim.Native.Nat.{_+_};
 ghost use Rattle.wire.specs.Fields.{flag};
 ghost use Rattle.hexline.specs.Put.{Room, Put};
 ghost use Rattle.hexline.specs.Printed.{decimalOf, space, gave, rowOf, acceptedColumns, spaced, ended};
+ghost use Rattle.hexline.specs.Tally.{tallyOf};
 
 // Room for any row.
 pub const ROW: usize = 64;
+
+// Room for any closing line.
+pub const TALLY: usize = 128;
 
 // Writes the row at the start of out and answers how many bytes it has. An out of less than 64
 // bytes stays as it is, and the answer is 0.
@@ -33,6 +38,30 @@ pub fn row(
         return accepted(out, second, address, dot, dash, ptt);
     }
     put(out, second, b" - - - -\n")
+}
+
+// Writes the closing line at the start of out and answers how many bytes it has. An out of less than
+// 128 bytes stays as it is, and the answer is 0.
+pub fn tally(frames: u64, skipped: u64, held: u64, out: &mut [u8]) -> usize
+    ensures { λ r. ⌜ gave r (now (out .exit)) ≡ tallyOf frames skipped held (now (out .entry)) ⌝ }
+{
+    if out.len() < TALLY {
+        return 0;
+    }
+    let first = labelled(out, 0, b"frames: handed out ", frames);
+    let second = labelled(out, first, b", bytes skipped ", skipped);
+    let third = labelled(out, second, b", bytes held ", held);
+    out[third] = b'\n';
+    third + 1
+}
+
+// A text, and a number in decimal.
+pub(crate) fn labelled(out: &mut [u8], at: usize, text: &[u8], n: u64) -> usize
+    requires { ⌜ Room (now out) at (now text ++ decimalOf n) ⌝ }
+    ensures { λ r. ⌜ Put (now (out .entry)) at (now (text .entry) ++ decimalOf n) r (now (out .exit)) ⌝ }
+{
+    let next = put(out, at, text);
+    decimal(out, next, n)
 }
 
 // Address, DOT, DASH and PTT, and the newline.

@@ -141,7 +141,7 @@ module _ {A : Type 0} where
   pub getD-over : (n : ℕ) (f : ℕ → A) (xs : List A) (i : ℕ) (d : A) → i < n → getD (over n f xs) i d ≡ f i
   getD-over n f xs i d below = List·getD-append (tab n f) (drop n xs) d i (rw (length-tab n f) below) ∙ getD-tab n f i d below
 
-  tabs-add : (m n : ℕ) (f : ℕ → List A) → tabs (m + n) f ≡ tabs m f ++ tabs n (λ j. f (m + j))
+  pub tabs-add : (m n : ℕ) (f : ℕ → List A) → tabs (m + n) f ≡ tabs m f ++ tabs n (λ j. f (m + j))
   tabs-add m zero f = rw (add-zero m) (sym (append-nil (tabs m f)))
   tabs-add m (suc n) f = rw (add-suc m n, tabs-add m n f) (append-assoc (tabs m f) (tabs n (λ j. f (m + j))) (f (m + n)))
 
