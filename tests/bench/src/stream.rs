@@ -1,4 +1,4 @@
-//! The stream reader, fed with pieces of 4,096 bytes.
+//! The stream reader, fed with pieces of 4,096 bytes, and of 512, with which a call hands out at most one frame.
 
 use crate::contest::{Contest, Entry, Work};
 use crate::machine::{self, machine_stream_feed};
@@ -12,7 +12,7 @@ const PIECES: usize = 50;
 const FRAME: usize = 512;
 const SYNC: [u8; 3] = [0x7f; 3];
 
-type Piece = [u8; PIECE];
+type Piece = Box<[u8]>;
 
 /// As many bytes as fill the pieces, so that after the last the first goes on with whole frames.
 fn noise() -> Vec<u8> {
@@ -84,9 +84,8 @@ pub struct Feed {
 
 impl Feed {
     /// The bytes out are those of the frames handed out and of the held bytes.
-    fn entry(name: &str, bytes: Vec<u8>, bytes_out: usize) -> Entry<Feed> {
+    fn entry(name: &str, bytes: Vec<u8>, piece: usize, bytes_out: usize) -> Entry<Feed> {
         let fresh = ([0; COUNTS], [0; HELD]);
-        let pieces = bytes.chunks_exact(PIECE);
         Entry {
             name: format!("stream feed, {name}"),
             contest: Feed {
@@ -94,20 +93,19 @@ impl Feed {
                 machine: Buffers::new(fresh),
                 reference: Buffers::new(Stream::fresh()),
             },
-            inputs: pieces
-                .map(|piece| piece.try_into().expect("a whole piece"))
-                .collect(),
-            frames_a_call: (PIECE / FRAME) as f64,
-            bytes_in: PIECE,
+            inputs: bytes.chunks_exact(piece).map(Piece::from).collect(),
+            frames_a_call: (piece / FRAME) as f64,
+            bytes_in: piece,
             bytes_out,
         }
     }
 
-    pub fn entries() -> [Entry<Feed>; 3] {
+    pub fn entries() -> [Entry<Feed>; 4] {
         [
-            Feed::entry("clean", clean(), PIECE + HELD),
-            Feed::entry("damaged", damaged(), PIECE + HELD),
-            Feed::entry("noise", noise(), HELD),
+            Feed::entry("clean", clean(), PIECE, PIECE + HELD),
+            Feed::entry("damaged", damaged(), PIECE, PIECE + HELD),
+            Feed::entry("noise", noise(), PIECE, HELD),
+            Feed::entry("clean, a frame a call", clean(), FRAME, FRAME + HELD),
         ]
     }
 
