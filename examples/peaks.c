@@ -64,6 +64,8 @@ static bool print_summary(const struct summary *summary) {
         printf("receiver %zu: peak %" PRId32 "\n", r + 1, summary->peaks[r]);
     printf("frames read %" PRIu64 ", frames refused %" PRIu64 ", bytes skipped %" PRIu64 ", bytes held %" PRIu64 "\n",
            summary->read, summary->refused, counts->skipped, counts->held);
+    if (counts->held >= HPSDR_FRAME)
+        puts("a last frame may be among the bytes held: it is handed out once sync, 7F 7F 7F, has come after it");
     if (fflush(stdout) == 0 && !ferror(stdout))
         return true;
     perror("peaks: standard output");

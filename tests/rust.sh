@@ -32,4 +32,5 @@ receiver 1: peak 1118481
 receiver 2: peak 2236962
 receiver 3: peak 3355443
 frames read 9, frames refused 1, bytes skipped 506, bytes held 512
+a last frame may be among the bytes held: it is handed out once sync, 7F 7F 7F, has come after it
 END_OF_TEXT

@@ -2,8 +2,11 @@
 //!     cargo run --offline --release -p hpsdr --example peaks RECEIVERS < recording
 //! The peak is the largest absolute value of I and Q. A recording's last frame counts only if sync follows it.
 
-use hpsdr::{frames, layout, Samples, Status};
+use hpsdr::{frames, layout, Samples, Status, FRAME};
 use std::io::{self, Read, Write};
+
+const HELD_FRAME: &str =
+    "a last frame may be among the bytes held: it is handed out once sync, 7F 7F 7F, has come after it";
 
 pub fn print_peaks(receivers: usize, recording: impl Read, mut to: impl Write) -> io::Result<()> {
     layout(receivers)?;
@@ -25,7 +28,11 @@ pub fn print_peaks(receivers: usize, recording: impl Read, mut to: impl Write) -
     let counts = frames.counts();
     let (read, skipped, held) = (counts.frames - refused, counts.skipped, counts.held);
     write!(to, "frames read {read}, frames refused {refused}, ")?;
-    writeln!(to, "bytes skipped {skipped}, bytes held {held}")
+    writeln!(to, "bytes skipped {skipped}, bytes held {held}")?;
+    if held >= FRAME as u64 {
+        writeln!(to, "{HELD_FRAME}")?;
+    }
+    Ok(())
 }
 
 fn main() {
