@@ -9,6 +9,7 @@ trap 'rm -rf "$room"' EXIT
 real=$(command -v rt)
 RATTLE_HOME=${RATTLE_HOME:-$(cd "$(dirname "$(readlink -f "$real")")/.." && pwd -P)}
 export RATTLE_HOME
+unset HPSDR_TOOLCHAIN_TOLD
 tried=0
 
 fails() {

@@ -5,7 +5,9 @@ room=$(mktemp -d)
 trap 'rm -rf "$room"' EXIT
 tried=0
 
-# What is to be built is built, and said, before anything is compared.
+# What is to be built is built, and said, before anything is compared; and of the toolchain nothing is said.
+HPSDR_TOOLCHAIN_TOLD=yes
+export HPSDR_TOOLCHAIN_TOLD
 "$program" </dev/null >"$room/got" 2>&1 || { cat "$room/got" >&2; exit 1; }
 
 fails() { # WHAT WHY

@@ -46,7 +46,9 @@ while [ -f "$room/$((commands + 1)).command" ]; do
 done
 [ "$texts" -gt 0 ] && [ "$commands" -gt 0 ] || fails 'the README has no command, or no program'
 
-# What is to be built is built, and said, before anything is compared.
+# What is to be built is built, and said, before anything is compared; and of the toolchain nothing is said.
+HPSDR_TOOLCHAIN_TOLD=yes
+export HPSDR_TOOLCHAIN_TOLD
 for command in './frames' './list' 'tools/archive.sh'; do
     $command </dev/null >"$room/built" 2>&1 || fails "$command: $(cat "$room/built")"
 done

@@ -16,12 +16,16 @@ need() {
     done
 }
 
-# The toolchain is there. Where it is another than the one with which all of this was proved, a line says so.
+# The toolchain is there. Where it is another than the one with which all of this was proved, a line says so, once for a
+# command and all that it calls.
 know_toolchain() {
     command -v rt >/dev/null 2>&1 || fail "the Rattle toolchain is missing: there is no 'rt' on the PATH"
     here=$(rt version)
     known=$(cat "$home/toolchain")
-    [ "$here" = "$known" ] || say "the toolchain is '$here'; all of this was proved with '$known'. Going on"
+    [ "$here" = "$known" ] || [ -n "${HPSDR_TOOLCHAIN_TOLD:-}" ] ||
+        say "the toolchain is '$here'; all of this was proved with '$known'. Going on"
+    HPSDR_TOOLCHAIN_TOLD=yes
+    export HPSDR_TOOLCHAIN_TOLD
 }
 
 # Where the toolchain's own compiler, emulator and C library for this machine stand.
