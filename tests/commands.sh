@@ -37,6 +37,9 @@ list_says() { # WHAT STATUS [LINE...]
     tried=$((tried + 1))
 }
 
+# What is to be built is built, and said, before anything is compared.
+./list </dev/null >"$room/got" 2>&1 || fails "$(cat "$room/got")"
+
 [ "$(wc -l <toolchain)" -eq 1 ] || fails 'the file toolchain is not one line'
 known=$(cat toolchain)
 

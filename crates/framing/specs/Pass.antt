@@ -28,3 +28,8 @@ pub record Passes (given : Stream) (bytes frames text : List ℕ) (next : Passin
   pub stream-is : next .stream ≡ feedOf given bytes frames .next
   pub text-is : gave (next .waiting) after ≡ written (linesOf (feedOf given bytes frames .frames) (feedOf given bytes frames .output)) text
   pub going-is : next .going ≡ leb (given .total + length bytes) (2 ^ 48)
+
+-- so are the bytes of some read, which stand at the start of the piece as it returns
+pub record PassesSome (given : Stream) (piece frames text : List ℕ) (next : Passing) (after : List ℕ) : Type 0 where
+  pub got : ℤ
+  pub passes : Passes given (bytesRead got piece) frames text next after

@@ -16,7 +16,7 @@ ghost use mathlib.Core.Bool.{true, false};
 ghost use Rattle.hexline.specs.Printed.{gave};
 ghost use Rattle.hexline.specs.Tally.{tallyOf};
 ghost use Rattle.stream.specs.Record.{soundOf};
-ghost use Rattle.framing.specs.Pass.{Buffers, bytesRead, Passes};
+ghost use Rattle.framing.specs.Pass.{Buffers, bytesRead, Passes, PassesSome};
 
 // What goes from one read to the next: the stream's record, how many bytes of the text wait to be
 // written, and whether there is more to do.
@@ -56,6 +56,7 @@ fn pass_some(stream: Stream, piece: &mut [u8], frames: &mut [u8], text: &mut [u8
     requires { ⌜ soundOf stream ≡ true ⌝ }
     requires { ⌜ Buffers (now piece) (now frames) (now text) ⌝ }
     ensures { λ r. ⌜ soundOf (r .stream) ≡ true ⌝ }
+    ensures { λ r. ⌜ (r .going ≡ true → PassesSome stream (now (piece .exit)) (now (frames .entry)) (now (text .entry)) r (now (text .exit))) ⌝ }
 {
     let got = libc::read(STDIN_FILENO, piece);
     if got < 0 {
