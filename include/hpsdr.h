@@ -108,7 +108,8 @@ struct hpsdr_row {
 };
 #define HPSDR_ROW_CELLS (sizeof(struct hpsdr_row) / sizeof(uint32_t)) /* 3 */
 
-/* The row of a number of receivers. Refusals: BAD_STATE (too few cells), BAD_COUNT. */
+/* The row of a number of receivers, which no frame carries: see `hpsdr_radio_read` for what a wrong one does.
+ * Refusals: BAD_STATE (too few cells), BAD_COUNT. */
 uint32_t hpsdr_layout(size_t receivers, struct hpsdr_row *row, size_t row_cells);
 
 static inline uint32_t hpsdr_row_of(size_t receivers, struct hpsdr_row *row) {
