@@ -1,7 +1,11 @@
 -- The status record as 26 cells, in the order of its fields. Assumes nothing.
 use Prim.Native.Nat.{ℕ}
+use mathlib.Core.Bool.{cond}
 use mathlib.Core.List.{List, [], _∷_}
+use lib.Dec.{leb}
+use lib.ListN.{length}
 use Rattle.cells.specs.Cells.{flag, number, cellOf}
+use Rattle.radio_status.specs.Record.{freshStatus}
 use Rattle.radio_status.specs.declared.record.Status.{Status}
 
 abbrev pub statusMost : List ℕ
@@ -42,3 +46,7 @@ statusCells s =
     ∷ s .inputs .mercury ∷ s .inputs .penelope ∷ s .inputs .main
     ∷ s .forward .ain5 ∷ s .forward .ain1 ∷ s .reverse .ain2 ∷ s .reverse .ain3 ∷ s .supply .ain4 ∷ s .supply .ain6
     ∷ s .versions .board1 ∷ s .versions .board2 ∷ s .versions .board3 ∷ s .versions .board4 ∷ []
+
+-- the record that the first cells are; too few of them give a fresh one
+unfoldable pub statusIn : List ℕ → Status
+statusIn cs = cond (leb 26 (length cs)) (statusOf cs) freshStatus

@@ -1,6 +1,6 @@
 // Frames from the radio, and how they are laid out, on numbers and lent slices: the status record crosses
 // as cells.
-mod status;
+pub mod status;
 
 use crate::status::MOST;
 use crate::status::status_cells;

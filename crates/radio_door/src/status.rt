@@ -1,4 +1,6 @@
 // The status record as 26 cells, in the order of its fields.
+//
+// What is public here serves the calls of other rooms, and has no `requires`: too few cells give a fresh record.
 use radio_status::record::ForwardLevels;
 use radio_status::record::Inputs;
 use radio_status::record::Overflow;
@@ -9,10 +11,10 @@ use radio_status::record::Versions;
 ghost use mathlib.Core.Path.{_≡_};
 ghost use Prim.Native.Nat.{_≤_};
 ghost use lib.ListN.{length};
-ghost use Rattle.radio_door.specs.Status.{statusOf, statusCells};
+ghost use Rattle.radio_door.specs.Status.{statusOf, statusIn, statusCells};
 
 // The most that each cell can hold.
-pub(crate) const MOST: [u32; 26] = [
+pub const MOST: [u32; 26] = [
     1,
     1,
     1,
@@ -40,6 +42,16 @@ pub(crate) const MOST: [u32; 26] = [
     255,
     255,
 ];
+
+// The record that the cells are; too few of them give a fresh one.
+pub fn status_in(cells: &[u32]) -> Status
+    ensures { λ r. ⌜ r ≡ statusIn (now (cells .entry)) ⌝ }
+{
+    if cells.len() < 26 {
+        return Status::fresh();
+    }
+    status_of(cells)
+}
 
 pub(crate) fn status_of(cells: &[u32]) -> Status
     requires { ⌜ 26 ≤ length (now cells) ⌝ }
@@ -135,7 +147,7 @@ pub(crate) fn versions_of(cells: &[u32]) -> Versions
     }
 }
 
-pub(crate) fn status_cells(s: Status) -> [u32; 26]
+pub fn status_cells(s: Status) -> [u32; 26]
     ensures { λ r. ⌜ r ≡ statusCells s ⌝ }
 {
     let overflow = s.overflow;
