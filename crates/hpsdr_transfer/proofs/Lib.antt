@@ -1,0 +1,4 @@
+-- What is proved of a transfer on cells.
+pub mod TransferCases
+pub mod Leaves
+pub mod Settled
