@@ -1,16 +1,20 @@
 #!/bin/sh
 # Makes target/archive/libhpsdr.a, the proved library as C and Rust programs of this machine link it, and
-# target/staticlib/libhpsdr.a, the same for x86-64. It makes nothing anew unless a source has changed.
+# target/x86_64/libhpsdr.a, the same for x86-64. It makes nothing anew unless a source has changed.
 #
-# The Rattle compiler proves the library, lowers it to one LLVM module and has its clang compile that, for
+# Each of the library's crates is compiled by itself, to an object of its own: what a crate adds changes no
+# machine code of another.
+#
+# The Rattle compiler proves a crate, lowers it to one LLVM module and has its clang compile that, for
 # x86-64 only. On another machine a clang that stands before the compiler's own keeps the module, and the
 # compiler's own clang compiles it once more, for that machine and with the same optimisation.
 set -eu
 home=$(cd "$(dirname "$0")/.." && pwd -P)
 name=${HPSDR_COMMAND:-tools/archive.sh}
 . "$home/tools/common.sh"
+crates='hpsdr hpsdr_transfer'
 folder=$home/target/archive
-shipped=$home/target/staticlib/libhpsdr.a
+shipped=$home/target/x86_64
 machine=$(uname -m)
 
 sources() {
@@ -44,33 +48,47 @@ CLANG
     done
 }
 
-# The module for this machine: its text, without the lines and attributes that name another one.
-compile_here() {
-    "$tools/bin/clang" --target=x86_64-unknown-linux-gnu -x ir "$folder/module.bc" -S -emit-llvm -o "$folder/module.ll" \
+# The object of a crate for this machine: of the module's text, without the lines and attributes that name another one.
+compile_here() { # CRATE
+    "$tools/bin/clang" --target=x86_64-unknown-linux-gnu -x ir "$folder/module.bc" -S -emit-llvm -o "$folder/$1.ll" \
         -Xclang -disable-llvm-passes
-    sed -e '/^target /d' -e 's/"\(target\|tune\)-[a-z]*"="[^"]*"//g' "$folder/module.ll" >"$folder/here.ll"
-    "$tools/bin/clang" --target="$machine-unknown-linux-gnu" -x ir "$folder/here.ll" -c -o "$folder/module.o" \
+    sed -e '/^target /d' -e 's/"\(target\|tune\)-[a-z]*"="[^"]*"//g' "$folder/$1.ll" >"$folder/$1.here.ll"
+    "$tools/bin/clang" --target="$machine-unknown-linux-gnu" -x ir "$folder/$1.here.ll" -c -o "$folder/$1.o" \
         -O3 -fPIC -ffunction-sections -fdata-sections -Wno-override-module
-    rm -f "$folder/libhpsdr.a"
-    "$tools/bin/llvm-ar" crs "$folder/libhpsdr.a" "$folder/module.o"
+}
+
+# The archive of the crates' objects in a folder.
+archive() { # FOLDER
+    (
+        cd "$1"
+        rm -f libhpsdr.a
+        "$tools/bin/llvm-ar" crs libhpsdr.a $(printf '%s.o ' $crates)
+    )
 }
 
 know_toolchain
-mkdir -p "$folder"
+tools=$(machine_tools)
+mkdir -p "$folder" "$shipped"
 sources >"$folder/sources.now"
-if [ -f "$folder/libhpsdr.a" ] && [ -f "$shipped" ] && cmp -s "$folder/sources" "$folder/sources.now"; then
+if [ -f "$folder/libhpsdr.a" ] && [ -f "$shipped/libhpsdr.a" ] && cmp -s "$folder/sources" "$folder/sources.now"; then
     exit
 fi
 rm -f "$folder/sources"
-if [ "$machine" = x86_64 ]; then
-    build staticlib hpsdr
-    cp "$shipped" "$folder/libhpsdr.a"
-else
-    tools=$(machine_tools)
+if [ "$machine" != x86_64 ]; then
     keeping_toolchain
     RATTLE_HOME=$kept
     export RATTLE_HOME
-    build staticlib hpsdr
-    compile_here
+fi
+for crate in $crates; do
+    rm -f "$folder/module.bc"
+    build staticlib "$crate"
+    "$tools/bin/llvm-ar" p "$home/target/staticlib/lib$crate.a" "$crate.o" >"$shipped/$crate.o"
+    [ "$machine" = x86_64 ] || compile_here "$crate"
+done
+archive "$shipped"
+if [ "$machine" = x86_64 ]; then
+    cp "$shipped/libhpsdr.a" "$folder/libhpsdr.a"
+else
+    archive "$folder"
 fi
 mv "$folder/sources.now" "$folder/sources"
