@@ -3,14 +3,17 @@
  *
  * Every call takes what it is given, checks for itself, and works or gives one of nine refusals, the first
  * that holds in the order of their numbers. After a refusal every buffer and record that was lent holds
- * what it held before. No call keeps a pointer, and none has a state of its own.
+ * what it held before. One call goes frame by frame, `hpsdr_radio_read_transfer`: the frames before the one that it
+ * refuses stay read, and all this holds from the refused frame on. No call keeps a pointer, and none has a state of its
+ * own.
  *
- * Each call has a full form and below it a short one. Begin with the short forms: `hpsdr_read`, `hpsdr_write`,
- * `hpsdr_hear`, `hpsdr_build_next`, `hpsdr_feed`, and the `_init` ones for their records. They take a record by its
- * pointer, and arrays that are whole: a frame of HPSDR_FRAME bytes, audio of HPSDR_AUDIO numbers, an output of
- * HPSDR_OUTPUT_LEAST bytes. They trust the caller for these sizes only, so they never answer SHORT_BUFFER, and LENGTH
- * only for a piece above 4,096 bytes; all else they check as the full forms do. The full forms take a length after
- * each pointer and check it too: they are for lengths that come from elsewhere. `examples/peaks.c` is a whole program.
+ * Each call has a full form and below it a short one. Begin with the short forms: `hpsdr_read`, `hpsdr_read_transfer`,
+ * `hpsdr_write`, `hpsdr_hear`, `hpsdr_build_next`, `hpsdr_feed`, and the `_init` ones for their records. They take a
+ * record by its pointer, and arrays that are whole: a frame of HPSDR_FRAME bytes, audio of HPSDR_AUDIO numbers, an
+ * output of HPSDR_OUTPUT_LEAST bytes. They trust the caller for these sizes only, so they never answer SHORT_BUFFER,
+ * and LENGTH only for the length of a piece or of a transfer, which they are given; all else they check as the full
+ * forms do. The full forms take a length after each pointer and check it too: they are for lengths that come from
+ * elsewhere. `examples/peaks.c` is a whole program.
  *
  * In both forms a pointer is not null and is aligned for its type, even where the length after it is 0; what it
  * points at is the caller's for the time of the call, as many elements as the form says or as are given, and what a
@@ -25,7 +28,8 @@
  * A call that only writes a record, `hpsdr_layout` or a `_fresh` one, does not look at what stands there.
  *
  * What a call returns is its answer in bits 7 to 0 and, where it says so, what it found in the bits above; on a
- * refusal it found 0. An accepted call that found something does not return 0: ask `hpsdr_answer_of`.
+ * refusal it found 0, but for the frames that `hpsdr_radio_read_transfer` read before the refused one. An accepted call
+ * that found something does not return 0: ask `hpsdr_answer_of`.
  */
 #ifndef HPSDR_H
 #define HPSDR_H
@@ -61,7 +65,8 @@ static inline const char *hpsdr_answer_sentence(uint32_t answer) {
     case HPSDR_ACCEPTED: return "the call did its work";
     case HPSDR_BAD_STATE: return "the stream record is unsound, the turn is above 10, or cells hold no record";
     case HPSDR_BAD_COUNT: return "the receiver count is not 1 to 8";
-    case HPSDR_LENGTH: return "the frame is not 512 bytes, or the piece is above 4,096";
+    case HPSDR_LENGTH:
+        return "the frame is not 512 bytes, the transfer is not 1 to 8 times 512, or the piece is above 4,096";
     case HPSDR_SHORT_BUFFER: return "a sample slice is shorter than needed, or the output is under 4,096 bytes";
     case HPSDR_STREAM_FULL: return "more than 2^48 bytes would have been fed";
     case HPSDR_NO_SYNC: return "the frame's first three bytes are not 7F 7F 7F";
@@ -93,6 +98,7 @@ static inline const char *hpsdr_answer_name(uint32_t answer) {
 #define HPSDR_MOST_RECEIVERS 8
 #define HPSDR_MOST_IQ 160       /* the most I and Q values of a radio frame: 2 times 8 receivers times 10 slots */
 #define HPSDR_MOST_MIC 63       /* the most microphone values of a radio frame: the slots of one receiver */
+#define HPSDR_MOST_FRAMES 8     /* frames of the longest transfer: as many as a stream hands out in one call */
 #define HPSDR_AUDIO 252         /* numbers of a host frame: L, R, I, Q, 63 times */
 #define HPSDR_PIECE_MOST 4096   /* bytes of the longest piece that a stream is fed */
 #define HPSDR_OUTPUT_LEAST 4096 /* bytes of the shortest output that a stream is lent: eight frames */
@@ -171,6 +177,42 @@ static inline uint32_t hpsdr_read(const uint8_t frame[HPSDR_FRAME], size_t recei
                                   struct hpsdr_status *status) {
     return hpsdr_radio_read(frame, HPSDR_FRAME, receivers, samples->iq, HPSDR_MOST_IQ, samples->mic, HPSDR_MOST_MIC,
                             status, HPSDR_STATUS_CELLS);
+}
+
+/* The samples of up to eight frames of one number of receivers, with room for every number. The slots run on from frame
+ * to frame: slot t of frame k, both counted from 0, is slot k * slots + t of the transfer, where `slots` is that of the
+ * row. With t so counted, I, Q and the microphone value stand where they stand in `struct hpsdr_samples`. */
+struct hpsdr_transfer {
+    int32_t iq[HPSDR_MOST_FRAMES * HPSDR_MOST_IQ];
+    int16_t mic[HPSDR_MOST_FRAMES * HPSDR_MOST_MIC];
+};
+
+/* I and Q of receiver r in slot t of the transfer, for r below the number of receivers n and t below the slots of the
+ * frames that were read. This is not checked. */
+static inline int32_t hpsdr_transfer_i(const struct hpsdr_transfer *transfer, size_t n, size_t r, size_t t) {
+    return transfer->iq[2 * (t * n + r)];
+}
+static inline int32_t hpsdr_transfer_q(const struct hpsdr_transfer *transfer, size_t n, size_t r, size_t t) {
+    return transfer->iq[2 * (t * n + r) + 1];
+}
+
+/* Reads a transfer: 1 to 8 frames of one number of receivers, one after another, as a stream hands them out. Each is
+ * read just as `hpsdr_radio_read` reads it, into the record that the frame before it left, and its values stand after
+ * those of the frame before it. Refusals, before any frame is read: BAD_STATE, BAD_COUNT, LENGTH (not 1 to 8 times 512
+ * bytes), SHORT_BUFFER (`iq` or `mic` shorter than the whole input needs). Then the first refused frame's own, NO_SYNC
+ * or PADDING, and there the call stops.
+ *
+ * Found, accepted or refused: the number of frames read, 0 to 8; which words they carried is not told. The record is
+ * the one after these frames, and past their values `iq` and `mic` are as before. The frame behind a refused one is at
+ * input + HPSDR_FRAME * (found + 1). */
+uint32_t hpsdr_radio_read_transfer(const uint8_t *input, size_t input_length, size_t receivers,
+                                   int32_t *iq, size_t iq_length, int16_t *mic, size_t mic_length,
+                                   struct hpsdr_status *status, size_t status_cells);
+
+static inline uint32_t hpsdr_read_transfer(const uint8_t *input, size_t length, size_t receivers,
+                                           struct hpsdr_transfer *transfer, struct hpsdr_status *status) {
+    return hpsdr_radio_read_transfer(input, length, receivers, transfer->iq, HPSDR_MOST_FRAMES * HPSDR_MOST_IQ,
+                                     transfer->mic, HPSDR_MOST_FRAMES * HPSDR_MOST_MIC, status, HPSDR_STATUS_CELLS);
 }
 
 /* Writes the frame that carries a word of the record, 0 to 4: all 512 bytes of it, padding among them. Who reads it has

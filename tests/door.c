@@ -9,7 +9,7 @@
 #include <stdio.h>
 #include <string.h>
 
-enum { LAST_WORD = 4, LAST_TURN = 10, FIRST_PAYLOAD = 8 };
+enum { LAST_WORD = 4, LAST_TURN = 10, FIRST_PAYLOAD = 8, NINE_FRAMES = 9 * HPSDR_FRAME };
 #define MOST_BYTES (UINT64_C(1) << 48)
 
 /* All that can be lent. Of each three the middle one is lent, and the other two are its guards. */
@@ -21,10 +21,11 @@ struct desk {
     struct hpsdr_counts counts[3];
     uint8_t held[3][HPSDR_HELD];
     uint8_t frame[3][HPSDR_FRAME + 1];
+    uint8_t input[3][NINE_FRAMES];
     uint8_t piece[3][HPSDR_PIECE_MOST + 1];
     uint8_t output[3][HPSDR_OUTPUT_LEAST];
-    int32_t iq[3][HPSDR_MOST_IQ];
-    int16_t mic[3][HPSDR_MOST_MIC];
+    int32_t iq[3][HPSDR_MOST_FRAMES * HPSDR_MOST_IQ];
+    int16_t mic[3][HPSDR_MOST_FRAMES * HPSDR_MOST_MIC];
     int16_t audio[3][HPSDR_AUDIO];
 };
 
@@ -33,14 +34,14 @@ static const struct area {
     size_t start, size;
 } areas[] = {
 #define AREA(member) {#member, offsetof(struct desk, member), sizeof(((struct desk *)0)->member)}
-    AREA(row),   AREA(status), AREA(host),   AREA(builder), AREA(counts), AREA(held),
-    AREA(frame), AREA(piece),  AREA(output), AREA(iq),      AREA(mic),    AREA(audio),
+    AREA(row),   AREA(status), AREA(host),   AREA(builder), AREA(counts), AREA(held),  AREA(frame),
+    AREA(input), AREA(piece),  AREA(output), AREA(iq),      AREA(mic),    AREA(audio),
 #undef AREA
 };
 
 /* What is passed besides the pointers. */
 struct numbers {
-    size_t row, status, host, builder, counts, held, frame, piece, output, iq, mic, audio, receivers, word;
+    size_t row, status, host, builder, counts, held, frame, input, piece, output, iq, mic, audio, receivers, word;
 };
 static const struct numbers usual = {
     .row = HPSDR_ROW_CELLS, .status = HPSDR_STATUS_CELLS, .host = HPSDR_HOST_CELLS, .builder = HPSDR_BUILDER_CELLS,
@@ -63,6 +64,10 @@ static uint32_t builder_fresh(void) { return hpsdr_builder_fresh(&lent.builder[1
 static uint32_t radio_read(void) {
     return hpsdr_radio_read(lent.frame[1], pass.frame, pass.receivers, lent.iq[1], pass.iq, lent.mic[1], pass.mic,
                             &lent.status[1], pass.status);
+}
+static uint32_t radio_read_transfer(void) {
+    return hpsdr_radio_read_transfer(lent.input[1], pass.input, pass.receivers, lent.iq[1], pass.iq, lent.mic[1],
+                                     pass.mic, &lent.status[1], pass.status);
 }
 static uint32_t radio_write(void) {
     return hpsdr_radio_write(&lent.status[1], pass.status, pass.word, pass.receivers, lent.iq[1], pass.iq,
@@ -215,6 +220,7 @@ static void test_too_few_cells(void) {
     refuse("build of 62 cells", build, HPSDR_BAD_STATE);
     pass.status = pass.host = pass.builder = pass.counts = 0;
     refuse("radio read without a record", radio_read, HPSDR_BAD_STATE);
+    refuse("transfer without a record", radio_read_transfer, HPSDR_BAD_STATE);
     refuse("radio write without a record", radio_write, HPSDR_BAD_STATE);
     refuse("host read without a record", host_read, HPSDR_BAD_STATE);
     refuse("build without a record", build, HPSDR_BAD_STATE);
@@ -260,6 +266,7 @@ static void test_cells(void) {
         set_control(lent.frame[1], unlisted_radio);
         uint32_t *cell = (uint32_t *)&lent.status[1] + at;
         refuse_above("radio read of a cell too large", radio_read, cell, status_most[at]);
+        refuse_above("transfer of a cell too large", radio_read_transfer, cell, status_most[at]);
         refuse_above("radio write of a cell too large", radio_write, cell, status_most[at]);
         *cell = (uint32_t)status_most[at];
         expect_unchanged();
@@ -285,15 +292,16 @@ static void test_cells(void) {
 
 /* ---- radio frames ---- */
 
+/* They come again after 241, a prime, so that no two frames of a transfer have the same. */
 static int32_t sample(size_t at) {
     static const int32_t first[] = {8388607, -8388608, -1, 0};
-    return at < 4 ? first[at] : (int32_t)at * 50021 - 4000000;
+    return at % 241 < 4 ? first[at % 241] : (int32_t)(at % 241) * 50021 - 4000000;
 }
 
 static int16_t microphone_value(size_t slot) { return (int16_t)(slot ? 500 - 13 * (int)slot : -32768); }
 
-static void put_samples(struct desk *desk, size_t receivers) {
-    const size_t slots = rows[receivers - 1].slots;
+static void put_samples(struct desk *desk, size_t receivers, size_t frames) {
+    const size_t slots = frames * rows[receivers - 1].slots;
     for (size_t at = 0; at < 2 * receivers * slots; at++)
         desk->iq[1][at] = sample(at);
     for (size_t slot = 0; slot < slots; slot++)
@@ -306,10 +314,11 @@ static uint8_t *put_number(uint8_t *place, uint32_t number, unsigned bytes) {
     return place;
 }
 
-/* The payload of those samples, by document 01's drawing. */
-static void draw_samples(uint8_t *frame, size_t receivers) {
+/* The payload of those samples in the frame of a number, by document 01's drawing. */
+static void draw_samples(uint8_t *frame, size_t receivers, size_t number) {
+    const size_t slots = rows[receivers - 1].slots;
     uint8_t *place = frame + FIRST_PAYLOAD;
-    for (size_t slot = 0; slot < rows[receivers - 1].slots; slot++) {
+    for (size_t slot = number * slots; slot < (number + 1) * slots; slot++) {
         for (size_t at = 2 * receivers * slot; at < 2 * receivers * (slot + 1); at++)
             place = put_number(place, (uint32_t)sample(at), 3);
         place = put_number(place, (uint32_t)microphone_value(slot), 2);
@@ -324,9 +333,9 @@ static void test_samples(size_t receivers, bool longer) {
         pass.mic = rows[receivers - 1].slots;
         pass.iq = 2 * receivers * pass.mic;
     }
-    draw_samples(lent.frame[1], receivers);
+    draw_samples(lent.frame[1], receivers, 0);
     expect_unchanged();
-    put_samples(&expected, receivers);
+    put_samples(&expected, receivers, 1);
     run("radio read of samples", radio_read, HPSDR_ACCEPTED, 0);
     memset(lent.frame[1], 0xEE, HPSDR_FRAME);
     if (longer && receivers < HPSDR_MOST_RECEIVERS)
@@ -334,7 +343,7 @@ static void test_samples(size_t receivers, bool longer) {
     expect_unchanged();
     memset(expected.frame[1], 0, HPSDR_FRAME);
     memset(expected.frame[1], 0x7F, 3);
-    draw_samples(expected.frame[1], receivers);
+    draw_samples(expected.frame[1], receivers, 0);
     run("radio write of samples", radio_write, HPSDR_ACCEPTED, 0);
 }
 
@@ -476,7 +485,7 @@ static void test_sync_and_padding(void) {
 
 static void test_radio_write_refusals(void) {
     set_out();
-    put_samples(&lent, 3);
+    put_samples(&lent, 3, 1);
     pass = (struct numbers){.status = 25, .receivers = 9, .frame = 513, .iq = 149, .mic = 25, .word = 5};
     refuse("radio write of 25 cells", radio_write, HPSDR_BAD_STATE);
     pass.status = 26;
@@ -505,6 +514,108 @@ static void test_radio_write_refusals(void) {
         refuse("radio write of a sample too large", radio_write, HPSDR_RANGE);
         lent.iq[1][at] = sample(at);
     }
+}
+
+/* ---- transfers ---- */
+
+/* Frames with samples of their own, which carry the full record's words 0 to 4 and then 0 again; slices that have just
+ * room for them. */
+static void set_out_transfer(size_t receivers, size_t frames) {
+    set_out();
+    pass.receivers = receivers;
+    pass.input = HPSDR_FRAME * frames;
+    pass.mic = rows[receivers - 1].slots * frames;
+    pass.iq = 2 * receivers * pass.mic;
+    for (size_t number = 0; number < frames; number++) {
+        uint8_t *frame = lent.input[1] + HPSDR_FRAME * number;
+        memset(frame, 0x7F, 3);
+        set_control(frame, full_status_words[number % (LAST_WORD + 1)]);
+        draw_samples(frame, receivers, number);
+    }
+    expect_unchanged();
+}
+
+/* The first so many frames are read. */
+static void expect_frames(size_t frames) {
+    expect_unchanged();
+    if (frames == 0)
+        return;
+    put_samples(&expected, pass.receivers, frames);
+    expected.status[1] = status_after(frames - 1);
+}
+
+static void test_transfers(size_t receivers, size_t more) {
+    for (size_t frames = 1; frames <= HPSDR_MOST_FRAMES; frames++) {
+        set_out_transfer(receivers, frames);
+        pass.iq += more;
+        pass.mic += more;
+        pass.status += more;
+        expect_frames(frames);
+        run("transfer", radio_read_transfer, HPSDR_ACCEPTED, (uint32_t)frames);
+    }
+}
+
+/* Each of eight frames is damaged in turn, at one place of it. */
+static void test_stops(size_t receivers, size_t place, enum hpsdr_answer refusal) {
+    for (size_t frames = 0; frames < HPSDR_MOST_FRAMES; frames++) {
+        set_out_transfer(receivers, HPSDR_MOST_FRAMES);
+        lent.input[1][HPSDR_FRAME * frames + place] ^= 0x80;
+        expect_frames(frames);
+        run("transfer with a damaged frame", radio_read_transfer, refusal, (uint32_t)frames);
+    }
+}
+
+static void test_all_stops(void) {
+    for (size_t receivers = 1; receivers <= HPSDR_MOST_RECEIVERS; receivers++) {
+        for (size_t place = 0; place < 3; place++)
+            test_stops(receivers, place, HPSDR_NO_SYNC);
+        for (size_t place = HPSDR_FRAME - rows[receivers - 1].padding; place < HPSDR_FRAME; place++)
+            test_stops(receivers, place, HPSDR_PADDING);
+    }
+}
+
+static void test_transfer_lengths(void) {
+    static const size_t wrong[] = {0, 1, 511, 513, 1023, 1025, 4095, 4097, 4607, NINE_FRAMES};
+    for (size_t at = 0; at < sizeof wrong / sizeof *wrong; at++) {
+        set_out_transfer(1, HPSDR_MOST_FRAMES);
+        pass.input = wrong[at];
+        refuse("transfer of a wrong length", radio_read_transfer, HPSDR_LENGTH);
+        pass.iq = pass.mic = 0;
+        refuse("transfer of a wrong length to no room", radio_read_transfer, HPSDR_LENGTH);
+    }
+}
+
+/* Each refusal, mending what gave the one before. The third frame's would come first by its number. */
+static void test_transfer_refusals(void) {
+    set_out_transfer(3, 3);
+    lent.input[1][HPSDR_FRAME + 511] = 1;
+    lent.input[1][2 * HPSDR_FRAME] = 0x7E;
+    lent.status[1].pll = 2;
+    pass.receivers = 9;
+    pass.input--;
+    pass.mic = 25;
+    refuse("transfer, bad state", radio_read_transfer, HPSDR_BAD_STATE);
+    lent.status[1].pll = 0;
+    refuse("transfer for 9", radio_read_transfer, HPSDR_BAD_COUNT);
+    pass.receivers = 0;
+    refuse("transfer for 0", radio_read_transfer, HPSDR_BAD_COUNT);
+    pass.receivers = 3;
+    refuse("transfer of 1,535 bytes", radio_read_transfer, HPSDR_LENGTH);
+    pass.input++;
+    refuse("transfer to one frame's microphone values", radio_read_transfer, HPSDR_SHORT_BUFFER);
+    pass.mic = 74;
+    refuse("transfer to 74 microphone values", radio_read_transfer, HPSDR_SHORT_BUFFER);
+    pass.mic = 75;
+    pass.iq = 150;
+    refuse("transfer to one frame's samples", radio_read_transfer, HPSDR_SHORT_BUFFER);
+    pass.iq = 449;
+    refuse("transfer to 449 samples", radio_read_transfer, HPSDR_SHORT_BUFFER);
+    pass.iq = 450;
+    expect_frames(1);
+    run("transfer with padding, then without sync", radio_read_transfer, HPSDR_PADDING, 1);
+    lent.input[1][HPSDR_FRAME + 511] = 0;
+    expect_frames(2);
+    run("transfer without sync", radio_read_transfer, HPSDR_NO_SYNC, 2);
 }
 
 /* ---- host frames ---- */
@@ -901,6 +1012,13 @@ int main(void) {
     test_radio_read_refusals();
     test_sync_and_padding();
     test_radio_write_refusals();
+    for (size_t receivers = 1; receivers <= HPSDR_MOST_RECEIVERS; receivers++) {
+        test_transfers(receivers, 0);
+        test_transfers(receivers, 3);
+    }
+    test_all_stops();
+    test_transfer_lengths();
+    test_transfer_refusals();
     test_host_words(0);
     test_host_words(3);
     test_builds(0);

@@ -24,6 +24,7 @@ static_assert(offsetof(struct hpsdr_host, word10_c4) == 61 * sizeof(uint32_t), "
 static_assert(offsetof(struct hpsdr_builder, turn) == 62 * sizeof(uint32_t), "place of the turn");
 static_assert(HPSDR_HELD == 514, "bytes that a stream may hold");
 static_assert(HPSDR_FRAME == 512 && HPSDR_AUDIO == 252, "bytes of a frame, numbers of a host frame");
+static_assert(HPSDR_MOST_FRAMES == 8, "frames of the longest transfer");
 static_assert(HPSDR_PIECE_MOST == 4096 && HPSDR_OUTPUT_LEAST == 4096, "bytes of a piece and of an output");
 static_assert(HPSDR_ACCEPTED == 0 && HPSDR_BAD_STATE == 1 && HPSDR_BAD_COUNT == 2 && HPSDR_LENGTH == 3 &&
               HPSDR_SHORT_BUFFER == 4 && HPSDR_STREAM_FULL == 5 && HPSDR_NO_SYNC == 6 && HPSDR_PADDING == 7 &&
@@ -40,6 +41,8 @@ static_assert(HPSDR_MOST_IQ == 2 * 8 * SLOTS(8), "the most I and Q, those of 8 r
 static_assert(HPSDR_MOST_MIC == SLOTS(1), "the most microphone values, those of 1 receiver");
 static_assert(sizeof(((struct hpsdr_samples *)0)->iq) == 160 * sizeof(int32_t), "room for I and Q");
 static_assert(sizeof(((struct hpsdr_samples *)0)->mic) == 63 * sizeof(int16_t), "room for microphone values");
+static_assert(sizeof(((struct hpsdr_transfer *)0)->iq) == 1280 * sizeof(int32_t), "room for a transfer's I and Q");
+static_assert(sizeof(((struct hpsdr_transfer *)0)->mic) == 504 * sizeof(int16_t), "room for a transfer's microphone");
 static_assert(sizeof(((struct hpsdr_stream *)0)->counts) == 4 * sizeof(uint64_t), "counts of a stream");
 static_assert(sizeof(((struct hpsdr_stream *)0)->held) == 514, "held bytes of a stream");
 
@@ -52,6 +55,10 @@ static inline int32_t hpsdr_i(const struct hpsdr_samples *samples, size_t n, siz
 static inline int32_t hpsdr_q(const struct hpsdr_samples *samples, size_t n, size_t r, size_t t);
 static inline uint32_t hpsdr_read(const uint8_t frame[512], size_t receivers, struct hpsdr_samples *samples,
                                   struct hpsdr_status *status);
+static inline int32_t hpsdr_transfer_i(const struct hpsdr_transfer *transfer, size_t n, size_t r, size_t t);
+static inline int32_t hpsdr_transfer_q(const struct hpsdr_transfer *transfer, size_t n, size_t r, size_t t);
+static inline uint32_t hpsdr_read_transfer(const uint8_t *input, size_t length, size_t receivers,
+                                           struct hpsdr_transfer *transfer, struct hpsdr_status *status);
 static inline uint32_t hpsdr_write(const struct hpsdr_status *status, size_t word, size_t receivers,
                                    const struct hpsdr_samples *samples, uint8_t frame[512]);
 static inline void hpsdr_host_init(struct hpsdr_host *host);

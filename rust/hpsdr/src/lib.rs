@@ -13,6 +13,7 @@
 //!
 //! The work is done by the proved library behind the header `hpsdr.h`. Every call checks for itself, and works or
 //! gives one of nine [refusals](Refusal); after a refusal everything that was lent holds what it held before.
+//! [`Status::read_transfer`] goes frame by frame, and there this holds from the refused frame on: see [`Stopped`].
 //!
 //! The library's archive, `libhpsdr.a`, is linked from the folder that the environment variable `HPSDR_ARCHIVE` names at
 //! build time; or from `target/archive` of the repository, where `./install` makes it; or from where pkg-config finds it
@@ -32,6 +33,7 @@ mod refusal;
 mod samples;
 mod status;
 mod stream;
+mod transfer;
 
 pub use builder::Builder;
 pub use choices::{
@@ -44,6 +46,7 @@ pub use refusal::Refusal;
 pub use samples::Samples;
 pub use status::{Status, Word};
 pub use stream::{Counts, Stream};
+pub use transfer::Stopped;
 
 /// Bytes of a frame.
 pub const FRAME: usize = 512;
@@ -51,6 +54,8 @@ pub const FRAME: usize = 512;
 pub const MOST_IQ: usize = 160;
 /// The most microphone values that a radio frame has: those of 1 receiver.
 pub const MOST_MIC: usize = 63;
+/// The most frames that a transfer has: as many as a stream hands out in one call.
+pub const MOST_FRAMES: usize = 8;
 /// Numbers of a host frame: L, R, I, Q, 63 times.
 pub const AUDIO: usize = 252;
 /// The most bytes that a piece may have.

@@ -22,6 +22,19 @@ pub const COUNTS_CELLS: usize = 4;
 /// Bytes that a stream may hold.
 pub const HELD: usize = 514;
 
+/// The form of the two calls that read radio frames.
+pub type RadioRead = unsafe extern "C" fn(
+    input: *const u8,
+    input_length: usize,
+    receivers: usize,
+    iq: *mut i32,
+    iq_length: usize,
+    mic: *mut i16,
+    mic_length: usize,
+    status: *mut u32,
+    status_cells: usize,
+) -> u32;
+
 extern "C" {
     /// The row of a number of receivers.
     pub fn hpsdr_layout(receivers: usize, row: *mut u32, row_cells: usize) -> u32;
@@ -33,6 +46,19 @@ extern "C" {
     pub fn hpsdr_radio_read(
         frame: *const u8,
         frame_length: usize,
+        receivers: usize,
+        iq: *mut i32,
+        iq_length: usize,
+        mic: *mut i16,
+        mic_length: usize,
+        status: *mut u32,
+        status_cells: usize,
+    ) -> u32;
+
+    /// Reads 1 to 8 radio frames, one after another; found, on a refusal too, is the number of frames read.
+    pub fn hpsdr_radio_read_transfer(
+        input: *const u8,
+        input_length: usize,
         receivers: usize,
         iq: *mut i32,
         iq_length: usize,

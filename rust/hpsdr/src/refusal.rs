@@ -3,7 +3,7 @@ use std::fmt;
 use std::io;
 
 /// Why a call did nothing. A call gives the first that holds, in the order of their numbers, and leaves everything
-/// that it was lent as it was.
+/// that it was lent as it was. [`Stopped`](crate::Stopped) is for the one call that reads several frames.
 ///
 /// ```
 /// use hpsdr::{layout, Refusal};
@@ -19,7 +19,7 @@ pub enum Refusal {
     BadState = 1,
     /// The receiver count is not 1 to 8.
     BadCount = 2,
-    /// The frame is not 512 bytes, or the piece is above 4,096.
+    /// The frame is not 512 bytes, the transfer is not 1 to 8 times 512, or the piece is above 4,096.
     Length = 3,
     /// A sample slice is shorter than needed, or the output is under 4,096 bytes.
     ShortBuffer = 4,
@@ -47,7 +47,9 @@ impl fmt::Display for Refusal {
         formatter.write_str(match self {
             Refusal::BadState => "the stream record is unsound, or the turn is above 10",
             Refusal::BadCount => "the receiver count is not 1 to 8",
-            Refusal::Length => "the frame is not 512 bytes, or the piece is above 4,096",
+            Refusal::Length => {
+                "the frame is not 512 bytes, the transfer is not 1 to 8 times 512, or the piece is above 4,096"
+            }
             Refusal::ShortBuffer => {
                 "a sample slice is shorter than needed, or the output is under 4,096 bytes"
             }

@@ -214,13 +214,27 @@ impl Status {
         iq: &mut [i32],
         mic: &mut [i16],
     ) -> Result<Word, Refusal> {
+        let got = self.read_by(raw::hpsdr_radio_read, frame, receivers, iq, mic);
+        Ok(Word::of(found(got)? as u8))
+    }
+
+    /// What the call returned. The record is the one that it left, which after a refusal is that of the frames before.
+    #[inline]
+    pub(crate) fn read_by(
+        &mut self,
+        call: raw::RadioRead,
+        input: &[u8],
+        receivers: usize,
+        iq: &mut [i32],
+        mic: &mut [i16],
+    ) -> u32 {
         let mut cells = self.cells();
-        // SAFETY: each pointer and number are those of one slice or array; those to be written are borrowed for
-        // writing, so they overlap nothing.
+        // SAFETY: the call is one of the two of `raw`; each pointer and number are those of one slice or array; those
+        // to be written are borrowed for writing, so they overlap nothing.
         let got = unsafe {
-            raw::hpsdr_radio_read(
-                frame.as_ptr(),
-                frame.len(),
+            call(
+                input.as_ptr(),
+                input.len(),
                 receivers,
                 iq.as_mut_ptr(),
                 iq.len(),
@@ -230,9 +244,8 @@ impl Status {
                 cells.len(),
             )
         };
-        let address = found(got)?;
         *self = Status::of_cells(&cells);
-        Ok(Word::of(address as u8))
+        got
     }
 
     /// Reads a frame of 1 to 8 receivers as [`read`](Status::read) does, into `samples`, where they stand by receiver.

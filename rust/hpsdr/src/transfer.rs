@@ -1,0 +1,117 @@
+use crate::raw;
+use crate::refusal::{found, Refusal};
+use crate::Status;
+use std::error::Error;
+use std::fmt;
+use std::io;
+
+/// Why the reading of a transfer stopped, and after how many frames. These frames stay read: their values stand in the
+/// slices, and the record is the one after them. All else is as it was.
+///
+/// Where a frame was refused, for [`NoSync`](Refusal::NoSync) or [`Padding`](Refusal::Padding), it is the frame after
+/// these. For every other refusal no frame was looked at, and `frames` is 0.
+///
+/// ```
+/// use hpsdr::{Refusal, Stopped};
+///
+/// let stopped = Stopped { refusal: Refusal::Padding, frames: 2 };
+/// assert_eq!(stopped.to_string(), "2 frames were read before the refusal: a padding byte is not 0");
+/// ```
+#[derive(Clone, Copy, Debug, PartialEq, Eq, Hash)]
+pub struct Stopped {
+    /// Why no further frame was read.
+    pub refusal: Refusal,
+    /// How many frames were read before, 0 to 7.
+    pub frames: usize,
+}
+
+impl fmt::Display for Stopped {
+    fn fmt(&self, formatter: &mut fmt::Formatter<'_>) -> fmt::Result {
+        match self.frames {
+            0 => formatter.write_str("no frame was read")?,
+            1 => formatter.write_str("1 frame was read")?,
+            frames => write!(formatter, "{frames} frames were read")?,
+        }
+        write!(formatter, " before the refusal: {}", self.refusal)
+    }
+}
+
+// The text tells the refusal, so it is no source: whoever prints the chain of sources would print it twice.
+impl Error for Stopped {}
+
+/// An error of kind `Other` with all this in it, as a [`Refusal`] makes one.
+///
+/// ```
+/// use hpsdr::{Status, Stopped};
+/// use std::io;
+///
+/// let stopped = Status::fresh().read_transfer(&[], 1, &mut [], &mut []).unwrap_err();
+/// assert_eq!(io::Error::from(stopped).downcast::<Stopped>().unwrap(), stopped);
+/// ```
+impl From<Stopped> for io::Error {
+    fn from(stopped: Stopped) -> io::Error {
+        io::Error::other(stopped)
+    }
+}
+
+impl Status {
+    /// Reads a transfer: 1 to 8 frames of one number of receivers, one after another, as a
+    /// [stream](crate::Stream::feed) hands them out. Each is read just as [`read`](Status::read) reads it, into the
+    /// record that the frame before it left, and its values stand after those of the frame before it. Gives the number
+    /// of frames; which words they carried is not told.
+    ///
+    /// Refusals, before any frame is read: `BadCount`; `Length`, for an input that is not 1 to 8 times 512 bytes;
+    /// `ShortBuffer`, for slices that are shorter than the whole input needs. Then the first refused frame's own,
+    /// `NoSync` or `Padding`, and there the reading [stops](Stopped).
+    ///
+    /// ```
+    /// use hpsdr::{Status, FRAME};
+    ///
+    /// // Two frames of one receiver: word 1 with AIN5 and word 2 with AIN2. Their first I is 5 and -1.
+    /// let mut input = [0; 2 * FRAME];
+    /// input[..11].copy_from_slice(&[0x7F, 0x7F, 0x7F, 0x08, 0x01, 0xF4, 0, 0, 0, 0, 5]);
+    /// input[FRAME..][..11].copy_from_slice(&[0x7F, 0x7F, 0x7F, 0x10, 0, 100, 0, 0, 0xFF, 0xFF, 0xFF]);
+    ///
+    /// let (mut status, mut iq, mut mic) = (Status::fresh(), [7; 2 * 126], [7; 2 * 63]);
+    /// assert_eq!(status.read_transfer(&input, 1, &mut iq, &mut mic), Ok(2));
+    /// assert_eq!((iq[0], iq[126]), (5, -1));
+    /// assert_eq!((status.ain5, status.ain2), (500, 100));
+    /// ```
+    ///
+    /// The frames before a refused one stay read, and what comes after them is as it was:
+    ///
+    /// ```
+    /// use hpsdr::{Refusal, Status, Stopped, FRAME};
+    ///
+    /// // Three frames of zeros, which carry word 0, but for the second frame's first byte.
+    /// let mut input = [0; 3 * FRAME];
+    /// input.chunks_mut(FRAME).for_each(|frame| frame[..3].fill(0x7F));
+    /// input[FRAME] = 0x7E;
+    ///
+    /// let given = Status { pll: true, ain5: 500, ..Status::fresh() };
+    /// let (mut status, mut iq, mut mic) = (given, [7; 3 * 126], [8; 3 * 63]);
+    /// let stopped = status.read_transfer(&input, 1, &mut iq, &mut mic).unwrap_err();
+    /// assert_eq!(stopped, Stopped { refusal: Refusal::NoSync, frames: 1 });
+    /// assert_eq!(status, Status { pll: false, ..given });
+    /// assert_eq!((&iq[..126], &mic[..63]), (&[0; 126][..], &[0; 63][..]));
+    /// assert_eq!((&iq[126..], &mic[63..]), (&[7; 252][..], &[8; 126][..]));
+    ///
+    /// // Whoever goes on behind the refused frame:
+    /// let behind = &input[FRAME * (stopped.frames + 1)..];
+    /// assert_eq!(status.read_transfer(behind, 1, &mut iq, &mut mic), Ok(1));
+    /// ```
+    pub fn read_transfer(
+        &mut self,
+        input: &[u8],
+        receivers: usize,
+        iq: &mut [i32],
+        mic: &mut [i16],
+    ) -> Result<usize, Stopped> {
+        let got = self.read_by(raw::hpsdr_radio_read_transfer, input, receivers, iq, mic);
+        let frames = (got >> 8) as usize;
+        match found(got) {
+            Ok(_) => Ok(frames),
+            Err(refusal) => Err(Stopped { refusal, frames }),
+        }
+    }
+}

@@ -1,0 +1,171 @@
+//! Transfers of 1 to 8 frames: each is as many single reads, up to the first refused frame.
+
+mod common;
+
+use common::frame;
+use hpsdr::{layout, Refusal, Row, Status, Stopped, FRAME, MOST_FRAMES};
+use std::error::Error;
+use std::io;
+
+/// Frames of a number of receivers that carry words 0 to 4 in turn. No two have the same samples.
+fn frames(count: usize, row: Row) -> Vec<u8> {
+    let numbered = |at: usize| {
+        let number = at as u8;
+        let mut one = frame([((number % 5) << 3) | (number % 8), number, 0x12, 0x34, 0x56]);
+        for (place, byte) in one[8..FRAME - row.padding].iter_mut().enumerate() {
+            *byte = (place * 7 + at * 29) as u8;
+        }
+        one
+    };
+    (0..count).flat_map(numbered).collect()
+}
+
+/// The record, I and Q, and microphone values, before a call and after it.
+#[derive(Clone, Debug, PartialEq)]
+struct Lent {
+    status: Status,
+    iq: Vec<i32>,
+    mic: Vec<i16>,
+}
+
+impl Lent {
+    /// A little more than so many frames need.
+    fn for_frames(count: usize, receivers: usize, row: Row) -> Lent {
+        Lent {
+            status: Status::fresh(),
+            iq: vec![7_777_777; count * 2 * receivers * row.slots + 3],
+            mic: vec![-7_777; count * row.slots + 3],
+        }
+    }
+
+    fn read_transfer(&mut self, input: &[u8], receivers: usize) -> Result<usize, Stopped> {
+        let Lent { status, iq, mic } = self;
+        status.read_transfer(input, receivers, iq, mic)
+    }
+
+    /// Reads one frame after another by single reads.
+    fn read_singly(&mut self, input: &[u8], receivers: usize, row: Row) {
+        let values = 2 * receivers * row.slots;
+        for (at, frame) in input.chunks(FRAME).enumerate() {
+            let (iq, mic) = (&mut self.iq[at * values..], &mut self.mic[at * row.slots..]);
+            self.status.read(frame, receivers, iq, mic).unwrap();
+        }
+    }
+}
+
+#[test]
+fn as_many_single_reads() {
+    for receivers in 1..=8 {
+        let row = layout(receivers).unwrap();
+        for count in 1..=MOST_FRAMES {
+            let input = frames(count, row);
+            let mut at_once = Lent::for_frames(count, receivers, row);
+            let mut singly = at_once.clone();
+            assert_eq!(at_once.read_transfer(&input, receivers), Ok(count));
+            singly.read_singly(&input, receivers, row);
+            assert_eq!(at_once, singly, "{count} frames of {receivers}");
+        }
+    }
+}
+
+/// Damages each of eight frames in turn, at one place of it.
+fn stops_at_each(receivers: usize, place: usize, refusal: Refusal) {
+    let row = layout(receivers).unwrap();
+    let whole = frames(MOST_FRAMES, row);
+    for frames in 0..MOST_FRAMES {
+        let mut input = whole.clone();
+        input[FRAME * frames + place] ^= 0x80;
+        let mut stopped = Lent::for_frames(MOST_FRAMES, receivers, row);
+        let mut before = stopped.clone();
+        let got = stopped.read_transfer(&input, receivers);
+        assert_eq!(got, Err(Stopped { refusal, frames }));
+        before.read_singly(&whole[..FRAME * frames], receivers, row);
+        assert_eq!(stopped, before, "after {frames} frames of {receivers}");
+    }
+}
+
+#[test]
+fn stops_at_a_frame_without_sync() {
+    for receivers in 1..=8 {
+        (0..3).for_each(|place| stops_at_each(receivers, place, Refusal::NoSync));
+    }
+}
+
+#[test]
+fn stops_at_a_frame_with_damaged_padding() {
+    for receivers in 3..=8 {
+        let padding = layout(receivers).unwrap().padding;
+        for place in FRAME - padding..FRAME {
+            stops_at_each(receivers, place, Refusal::Padding);
+        }
+    }
+}
+
+/// The number of the later refusal is lower.
+#[test]
+fn the_first_refused_frame_decides() {
+    let row = layout(3).unwrap();
+    let mut input = frames(5, row);
+    input[2 * FRAME + 511] = 1;
+    input[3 * FRAME] = 0;
+    let got = Lent::for_frames(5, 3, row).read_transfer(&input, 3);
+    let (refusal, frames) = (Refusal::Padding, 2);
+    assert_eq!(got, Err(Stopped { refusal, frames }));
+}
+
+fn refused_whole(input: &[u8], receivers: usize, (iq, mic): (usize, usize), refusal: Refusal) {
+    let mut lent = Lent {
+        status: Status::fresh(),
+        iq: vec![7; iq],
+        mic: vec![8; mic],
+    };
+    let given = lent.clone();
+    let got = lent.read_transfer(input, receivers);
+    let frames = 0;
+    assert_eq!(got, Err(Stopped { refusal, frames }));
+    assert_eq!(lent, given);
+}
+
+/// Each case mends one more thing than the one before. The input's first frame is good.
+#[test]
+fn order_before_any_frame() {
+    let mut input = frames(3, layout(3).unwrap());
+    input[FRAME] = 0;
+    for receivers in [0, 9, 256 + 3, (1 << 32) + 3, usize::MAX] {
+        refused_whole(&input[1..], receivers, (0, 0), Refusal::BadCount);
+    }
+    refused_whole(&input[1..], 3, (0, 0), Refusal::Length);
+    for lengths in [(449, 75), (450, 74), (150, 25), (0, 0)] {
+        refused_whole(&input, 3, lengths, Refusal::ShortBuffer);
+    }
+}
+
+#[test]
+fn lengths() {
+    let mut nine = frames(9, layout(1).unwrap());
+    nine.push(0);
+    for length in 0..=nine.len() {
+        let (input, room) = (&nine[..length], (9 * 126, 9 * 63));
+        let frames = length / FRAME;
+        if length % FRAME != 0 || !(1..=MOST_FRAMES).contains(&frames) {
+            refused_whole(input, 1, room, Refusal::Length);
+            continue;
+        }
+        let mut lent = Lent::for_frames(frames, 1, layout(1).unwrap());
+        assert_eq!(lent.read_transfer(input, 1), Ok(frames));
+    }
+}
+
+#[test]
+fn texts() {
+    let text = |frames| {
+        let refusal = Refusal::NoSync;
+        let stopped = Stopped { refusal, frames };
+        assert_eq!(io::Error::from(stopped).to_string(), stopped.to_string());
+        Box::<dyn Error>::from(stopped).to_string()
+    };
+    let why = "before the refusal: the frame's first three bytes are not 7F 7F 7F";
+    assert_eq!(text(0), format!("no frame was read {why}"));
+    assert_eq!(text(1), format!("1 frame was read {why}"));
+    assert_eq!(text(7), format!("7 frames were read {why}"));
+}
