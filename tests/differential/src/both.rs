@@ -19,6 +19,31 @@ impl Both {
     }
 }
 
+/// What the library returns.
+fn read_by(
+    call: raw::RadioRead,
+    input: &mut Lent<u8>,
+    receivers: usize,
+    iq: &mut Lent<i32>,
+    mic: &mut Lent<i16>,
+    status: &mut Lent<u32>,
+) -> u32 {
+    // SAFETY: the slices are whole and apart.
+    unsafe {
+        call(
+            input.pointer(),
+            input.length(),
+            receivers,
+            iq.pointer(),
+            iq.length(),
+            mic.pointer(),
+            mic.length(),
+            status.pointer(),
+            status.length(),
+        )
+    }
+}
+
 pub fn layout(receivers: usize, row: &mut Lent<u32>) -> Both {
     // SAFETY: the slice is whole.
     let library = unsafe { raw::hpsdr_layout(receivers, row.pointer(), row.length()) };
@@ -50,20 +75,7 @@ pub fn radio_read(
     mic: &mut Lent<i16>,
     status: &mut Lent<u32>,
 ) -> Both {
-    // SAFETY: the slices are whole and apart.
-    let library = unsafe {
-        raw::hpsdr_radio_read(
-            frame.pointer(),
-            frame.length(),
-            receivers,
-            iq.pointer(),
-            iq.length(),
-            mic.pointer(),
-            mic.length(),
-            status.pointer(),
-            status.length(),
-        )
-    };
+    let library = read_by(raw::hpsdr_radio_read, frame, receivers, iq, mic, status);
     let reference = model::radio_read(
         frame.reference(),
         receivers,
@@ -72,6 +84,25 @@ pub fn radio_read(
         status.reference(),
     );
     Both::of(library, reference)
+}
+
+pub fn radio_read_transfer(
+    input: &mut Lent<u8>,
+    receivers: usize,
+    iq: &mut Lent<i32>,
+    mic: &mut Lent<i16>,
+    status: &mut Lent<u32>,
+) -> Both {
+    let call = raw::hpsdr_radio_read_transfer;
+    let library = read_by(call, input, receivers, iq, mic, status);
+    let reference = model::radio_read_transfer(
+        input.reference(),
+        receivers,
+        iq.reference(),
+        mic.reference(),
+        status.reference(),
+    );
+    Both { library, reference }
 }
 
 pub fn radio_write(

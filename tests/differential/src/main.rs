@@ -9,6 +9,7 @@ mod radio;
 mod stream;
 mod tally;
 mod text;
+mod transfer;
 mod twist;
 mod whole;
 
@@ -82,6 +83,7 @@ const KINDS: &[Kind] = &[
     kind::<Layout>(4),
     kind::<Fresh<Status>>(2),
     kind::<radio::Read>(30),
+    kind::<transfer::Transfer>(30),
     kind::<radio::Write>(30),
     kind::<Fresh<Host>>(2),
     kind::<host::Read>(20),

@@ -1,7 +1,7 @@
 //! Every call of the header, done by the reference: cells in, the reference's work, cells out.
 
 use crate::cells;
-use reference::{Builder, Host, Status, Stream};
+use reference::{Builder, Host, Status, Stopped, Stream};
 
 /// What was found, or the refusal.
 pub type Answer = Result<u32, u8>;
@@ -54,6 +54,25 @@ pub fn radio_read(
     let address = reference::radio_read(frame, receivers, iq, mic, &mut record)?;
     cells::status_into(&record, status);
     Ok(address.into())
+}
+
+/// As the door returns it: the frames that were read are found on a refusal too.
+pub fn radio_read_transfer(
+    input: &[u8],
+    receivers: usize,
+    iq: &mut [i32],
+    mic: &mut [i16],
+    status: &mut [u32],
+) -> u32 {
+    let Some(mut record) = cells::status(status) else {
+        return BAD_STATE.into();
+    };
+    let got = reference::radio_read_transfer(input, receivers, iq, mic, &mut record);
+    cells::status_into(&record, status);
+    match got {
+        Ok(frames) => returned(Ok(frames as u32)),
+        Err(Stopped { refusal, frames }) => returned(Ok(frames as u32)) | u32::from(refusal),
+    }
 }
 
 pub fn radio_write(

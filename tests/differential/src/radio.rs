@@ -10,7 +10,8 @@ use crate::twist::{
 };
 use reference::row;
 
-const PADDED: [usize; 6] = [3, 4, 5, 6, 7, 8];
+/// The receiver counts whose frames have padding.
+pub const PADDED: [usize; 6] = [3, 4, 5, 6, 7, 8];
 
 /// Samples at and around both ends of 24 bits, and some that are in range only when cut.
 const EDGES: [i32; 12] = [
@@ -28,15 +29,15 @@ const EDGES: [i32; 12] = [
     i32::MAX,
 ];
 
-fn slots(receivers: usize) -> usize {
+pub fn slots(receivers: usize) -> usize {
     row(receivers).map_or(63, |row| row.slots)
 }
 
-fn samples(receivers: usize) -> usize {
+pub fn samples(receivers: usize) -> usize {
     row(receivers).map_or(126, |row| 2 * receivers * row.slots)
 }
 
-fn frame(receivers: usize, draw: &mut Draw) -> Vec<u8> {
+pub fn frame(receivers: usize, draw: &mut Draw) -> Vec<u8> {
     let mut frame = draw.random.bytes(FRAME);
     if draw.random.one_in(4) {
         // Bytes that make samples at both ends of their range, and sync in the payload.
@@ -52,6 +53,14 @@ fn frame(receivers: usize, draw: &mut Draw) -> Vec<u8> {
         frame[FRAME - row.padding..].fill(0);
     }
     frame
+}
+
+/// Each padding byte of a frame in its turn, for a count that has some.
+pub fn damage_padding(frame: &mut [u8], receivers: usize, draw: &mut Draw) {
+    let padding = row(receivers).map_or(0, |row| row.padding);
+    let place = FRAME - 1 - draw.turn / PADDED.len() % padding;
+    let any = 1 + draw.random.below(255) as u8;
+    frame[place] = draw.random.pick(&[1, 0x80, any]);
 }
 
 pub struct Read {
@@ -76,10 +85,7 @@ impl Read {
     /// Each padding byte of each layout that has some.
     fn damage_padding(&mut self, draw: &mut Draw) {
         *self = Read::of(draw.in_turn(&PADDED), draw);
-        let padding = row(self.receivers).map_or(0, |row| row.padding);
-        let place = FRAME - 1 - draw.turn / PADDED.len() % padding;
-        let any = 1 + draw.random.below(255) as u8;
-        self.frame[place] = draw.random.pick(&[1, 0x80, any]);
+        damage_padding(&mut self.frame, self.receivers, draw);
     }
 }
 

@@ -68,15 +68,15 @@ impl Tally {
 
 impl fmt::Display for Tally {
     fn fmt(&self, f: &mut fmt::Formatter) -> fmt::Result {
-        write!(f, "{:22}{:>10}", "call", "made")?;
+        write!(f, "{:26}{:>10}", "call", "made")?;
         (0..ANSWERS).try_for_each(|answer| write!(f, "{answer:>9}"))?;
         writeln!(f)?;
         for Line { call, came } in &self.lines {
-            write!(f, "{:22}{:>10}", call.name, came.iter().sum::<u64>())?;
+            write!(f, "{:26}{:>10}", call.name, came.iter().sum::<u64>())?;
             came.iter().try_for_each(|count| write!(f, "{count:>9}"))?;
             writeln!(f)?;
         }
-        writeln!(f, "{:22}{:>10}", "in all", self.calls)?;
+        writeln!(f, "{:26}{:>10}", "in all", self.calls)?;
         let (wholes, demanded) = (self.wholes, self.demanded);
         write!(
             f,

@@ -1,5 +1,6 @@
 //! An independent implementation of the frames and the stream reader that
-//! document 01 (the scope) defines.
+//! document 01 (the scope) defines, with the requests T-01 (transfers) and
+//! T-07 (host word 10).
 //!
 //! Every refusal is `Err` of its number in the scope's table:
 //!
@@ -16,7 +17,7 @@
 //! | 9 | RANGE |
 //!
 //! The first that holds is the answer, and after it every lent slice and
-//! record is as it was.
+//! record is as it was. In a transfer both are true from the refused frame on.
 
 #![forbid(unsafe_code)]
 #![warn(missing_docs)]
@@ -27,8 +28,10 @@ mod host;
 mod radio;
 mod refusal;
 mod stream;
+mod transfer;
 
 pub use frame::{row, Row};
 pub use host::{build, host_read, Builder, Host};
 pub use radio::{radio_read, radio_write, Status};
 pub use stream::{Stream, MOST};
+pub use transfer::{radio_read_transfer, Stopped};

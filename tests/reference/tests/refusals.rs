@@ -32,6 +32,15 @@ fn run_radio_read(call: &mut RadioCall) -> Option<u8> {
     radio_read(frame, call.receivers, iq, mic, &mut call.status).err()
 }
 
+fn run_transfer(call: &mut RadioCall) -> Option<u8> {
+    let RadioCall { frame, iq, mic, .. } = call;
+    let got = radio_read_transfer(frame, call.receivers, iq, mic, &mut call.status);
+    got.err().map(|stopped| {
+        assert_eq!(stopped.frames, 0);
+        stopped.refusal
+    })
+}
+
 fn run_radio_write(call: &mut RadioCall) -> Option<u8> {
     let RadioCall {
         status, iq, mic, ..
@@ -55,6 +64,34 @@ fn radio_read_refuses_in_order() {
         (2, |c| c.receivers = 9),
     ];
     check_every_set(&good_radio_call(), run_radio_read, &faults);
+}
+
+/// Two frames, and slices of just the needed length. What is wrong with a
+/// frame is wrong with the first.
+#[test]
+fn a_transfer_refuses_in_order() {
+    let one = good_radio_call();
+    let good = RadioCall {
+        frame: one.frame.repeat(2),
+        iq: one.iq.repeat(2),
+        mic: one.mic.repeat(2),
+        ..one
+    };
+    let faults: [Fault<RadioCall>; 12] = [
+        (7, |c| c.frame[508] = 1),
+        (6, |c| c.frame[2] = 0),
+        (4, |c| c.iq.truncate(299)),
+        (4, |c| c.iq.truncate(150)),
+        (4, |c| c.mic.truncate(49)),
+        (4, |c| c.mic.truncate(25)),
+        (3, |c| c.frame.resize(9 * 512, 0)),
+        (3, |c| c.frame.resize(1025, 0)),
+        (3, |c| c.frame.truncate(1023)),
+        (3, |c| c.frame.clear()),
+        (2, |c| c.receivers = 0),
+        (2, |c| c.receivers = 9),
+    ];
+    check_every_set(&good, run_transfer, &faults);
 }
 
 #[test]

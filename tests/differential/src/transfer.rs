@@ -1,0 +1,175 @@
+//! Transfers: 1 to 8 frames from the radio, read by one call.
+
+use crate::both;
+use crate::case::{outcome, Call, Case, Draw, Outcome, Part, Twist};
+use crate::cells::{self, STATUS_MOST};
+use crate::lent::Guards;
+use crate::radio::{damage_padding, frame, samples, slots, PADDED};
+use crate::random::Number;
+use crate::twist::{
+    cell_count, cell_value, damage, damage_sync, resize, slice_length, valid_cells, valid_numbers,
+    FRAME, STRANGE_COUNTS, SYNC,
+};
+use reference::row;
+
+const MOST_FRAMES: usize = 8;
+
+pub struct Transfer {
+    input: Vec<u8>,
+    receivers: usize,
+    iq: Vec<i32>,
+    mic: Vec<i16>,
+    status: Vec<u32>,
+}
+
+impl Transfer {
+    fn of(receivers: usize, frames: usize, draw: &mut Draw) -> Transfer {
+        let input: Vec<_> = (0..frames).map(|_| frame(receivers, draw)).collect();
+        Transfer {
+            input: input.concat(),
+            receivers,
+            iq: valid_numbers(frames * samples(receivers), draw),
+            mic: valid_numbers(frames * slots(receivers), draw),
+            status: valid_cells(&STATUS_MOST, draw),
+        }
+    }
+
+    /// How many frames there are; an input that is no transfer is taken for a near one.
+    fn frames(&self) -> usize {
+        (self.input.len() / FRAME).clamp(1, MOST_FRAMES)
+    }
+
+    /// One of its frames, which may have been cut short.
+    fn any_frame(&mut self, draw: &mut Draw) -> &mut [u8] {
+        let number = draw.random.below(self.frames());
+        self.input.chunks_mut(FRAME).nth(number).unwrap_or_default()
+    }
+
+    fn damage_padding(&mut self, draw: &mut Draw) {
+        *self = Transfer::of(draw.in_turn(&PADDED), self.frames(), draw);
+        let receivers = self.receivers;
+        damage_padding(self.any_frame(draw), receivers, draw);
+    }
+
+    /// The padding of one frame, and the sync of another or of the same: either may come first.
+    fn damage_two(&mut self, draw: &mut Draw) {
+        self.damage_padding(draw);
+        damage_sync(self.any_frame(draw), draw);
+    }
+
+    /// Each multiple of a frame up to nine, one byte less, and one more.
+    fn input_length(&mut self, draw: &mut Draw) {
+        let (frames, more) = (draw.turn % 10, draw.turn / 10 % 3);
+        let length = (FRAME * frames + more).saturating_sub(1);
+        resize(&mut self.input, length, draw);
+    }
+
+    /// Whether each frame reads by itself; none if the call is refused before it comes to them.
+    fn reads(&self) -> Option<Vec<bool>> {
+        let (row, frames) = (row(self.receivers).ok()?, self.frames());
+        let comes_to_frames = self.input.len() == FRAME * frames
+            && self.iq.len() >= frames * samples(self.receivers)
+            && self.mic.len() >= frames * row.slots
+            && cells::status(&self.status).is_some();
+        let reads = |frame: &[u8]| {
+            let padding = &frame[FRAME - row.padding..];
+            frame.starts_with(&SYNC) && padding.iter().all(|&byte| byte == 0)
+        };
+        comes_to_frames.then(|| self.input.chunks(FRAME).map(reads).collect())
+    }
+
+    /// Whether the frames before the first that does not read are so many.
+    fn reads_just(&self, count: usize) -> bool {
+        let before = |reads: Vec<bool>| reads.iter().take_while(|&&reads| reads).count();
+        self.reads().map(before) == Some(count)
+    }
+
+    fn two_do_not_read(&self) -> bool {
+        let refused = |reads: Vec<bool>| reads.iter().filter(|&&reads| !reads).count();
+        self.reads().is_some_and(|reads| refused(reads) == 2)
+    }
+}
+
+/// Room for one frame, and for all but one.
+fn room_for_fewer<T: Number>(slice: &mut Vec<T>, frames: usize, one: usize, draw: &mut Draw) {
+    resize(slice, one * draw.in_turn(&[1, frames - 1]), draw);
+}
+
+const fn reads_just<const COUNT: usize>(
+    name: &'static str,
+    answers: &'static [u8],
+) -> Part<Transfer> {
+    Part {
+        line: Call { name, answers },
+        holds: |case| case.reads_just(COUNT),
+    }
+}
+
+impl Case for Transfer {
+    const CALL: Call = Call {
+        name: "hpsdr_radio_read_transfer",
+        answers: &[0, 1, 2, 3, 4, 6, 7],
+    };
+    const TWISTS: &'static [Twist<Self>] = &[
+        Transfer::damage_padding,
+        Transfer::damage_two,
+        Transfer::input_length,
+        |case, draw| damage(case.any_frame(draw), draw),
+        |case, draw| damage_sync(case.any_frame(draw), draw),
+        |case, draw| case.receivers = draw.in_turn(&STRANGE_COUNTS),
+        |case, draw| {
+            let needed = case.frames() * samples(case.receivers);
+            slice_length(&mut case.iq, needed, draw)
+        },
+        |case, draw| {
+            let needed = case.frames() * slots(case.receivers);
+            slice_length(&mut case.mic, needed, draw)
+        },
+        |case, draw| {
+            let (frames, one) = (case.frames(), samples(case.receivers));
+            room_for_fewer(&mut case.iq, frames, one, draw)
+        },
+        |case, draw| {
+            let (frames, one) = (case.frames(), slots(case.receivers));
+            room_for_fewer(&mut case.mic, frames, one, draw)
+        },
+        |case, draw| cell_value(&mut case.status, &STATUS_MOST, draw),
+        |case, draw| cell_count(&mut case.status, STATUS_MOST.len(), draw),
+    ];
+    const PARTS: &'static [Part<Self>] = &[
+        reads_just::<0>("- 0 frames read", &[6, 7]),
+        reads_just::<1>("- 1 frame read", &[0, 6, 7]),
+        reads_just::<2>("- 2 frames read", &[0, 6, 7]),
+        reads_just::<3>("- 3 frames read", &[0, 6, 7]),
+        reads_just::<4>("- 4 frames read", &[0, 6, 7]),
+        reads_just::<5>("- 5 frames read", &[0, 6, 7]),
+        reads_just::<6>("- 6 frames read", &[0, 6, 7]),
+        reads_just::<7>("- 7 frames read", &[0, 6, 7]),
+        reads_just::<8>("- 8 frames read", &[0]),
+        Part {
+            line: Call {
+                name: "- two frames do not read",
+                answers: &[6, 7],
+            },
+            holds: Transfer::two_do_not_read,
+        },
+    ];
+
+    /// Half of them have eight frames.
+    fn valid(draw: &mut Draw) -> Self {
+        let frames = draw
+            .random
+            .pick(&[1 + draw.turn % MOST_FRAMES, MOST_FRAMES]);
+        Transfer::of(1 + draw.random.below(8), frames, draw)
+    }
+
+    fn compare(self, guards: &Guards) -> Outcome {
+        let mut input = guards.lend("input", &self.input);
+        let mut iq = guards.lend("iq", &self.iq);
+        let mut mic = guards.lend("mic", &self.mic);
+        let mut status = guards.lend("status", &self.status);
+        let both =
+            both::radio_read_transfer(&mut input, self.receivers, &mut iq, &mut mic, &mut status);
+        outcome(both, &[&input, &iq, &mic, &status])
+    }
+}
