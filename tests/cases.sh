@@ -76,16 +76,22 @@ mistake radio_read.cases 'receivers 0 | answer 2 word 0' 'receivers 0 | answer 3
     'expected answer 3 word 0; door answer 2 word 0; reference answer 2 word 0'
 mistake radio_read.cases 'answer 0 word 31 | status dot 1 ptt 1' 'answer 0 word 30 | status dot 1 ptt 1' \
     'expected answer 0 word 30; door answer 0 word 31; reference answer 0 word 31'
+mistake radio_transfer.cases 'answer 6 frames 3' 'answer 6 frames 0' \
+    'expected answer 6 frames 0; door answer 6 frames 3; reference answer 6 frames 3'
 mistake radio_write.cases 'word 256 | answer 9' 'word 256 | answer 0' 'expected answer 0; door answer 9; reference answer 9'
 
 # A cell that is claimed to be as it was: in a record, past what a call writes, in a lent frame; and one that
-# is claimed to have changed after a refusal.
+# is claimed to have changed after a refusal, or to be as it was after one that comes behind frames that were read.
 mistake radio_read.cases '| answer 0 word 1 | status dot 1' '| answer 0 word 1' \
     'status dot: expected 0; door 1; reference 1'
 mistake radio_read.cases '512 bytes | answer 0 word 1 | iq at 0 x 126' '512 bytes | answer 0 word 1 | iq at 0 x 125' \
     'iq[125]: expected 1234567; door 0; reference 0'
 mistake radio_read.cases 'answer 0 word 1 | iq at 0 x 126 = 0 | mic at 0 x 63 = 0 | status heard' 'answer 0 word 1' \
     'iq: and 122 cells more'
+mistake radio_transfer.cases 'answer 6 frames 7 | iq iq7' 'answer 6 frames 7 | iq iq8' \
+    'iq[882]: expected 524288; door 1234567; reference 1234567'
+mistake radio_transfer.cases 'answer 6 frames 4 | iq iq4 | mic mic4 | status after4' \
+    'answer 6 frames 4 | iq iq4 | mic mic4' 'status dot: expected 1; door 0; reference 0'
 mistake host_build.cases 'turn 5 outputs 128 | answer 9' 'turn 5 outputs 128 | answer 9 | builder turn 6' \
     'builder turn: expected 6; door 5; reference 5'
 

@@ -8,13 +8,14 @@ mod stream;
 
 use crate::call::Call;
 
-static CALLS: [&Call; 12] = [
+static CALLS: [&Call; 13] = [
     &layout::LAYOUT,
     &fresh::STATUS,
     &fresh::HOST,
     &fresh::BUILDER,
     &fresh::STREAM,
     &radio::READ,
+    &radio::READ_TRANSFER,
     &radio::WRITE,
     &host::READ,
     &host::BUILD,

@@ -2,7 +2,8 @@
 
 use crate::call::{argument, Call, Given, Ran};
 use crate::kind;
-use differential::both;
+use differential::both::{self, Both};
+use differential::lent::Lent;
 
 pub static READ: Call = Call {
     name: "radio_read",
@@ -14,16 +15,31 @@ pub static READ: Call = Call {
         argument("status", &kind::STATUS),
     ],
     found: Some("word"),
-    run: read,
+    run: |given| read(given, "frame", both::radio_read),
 };
 
-fn read(given: &Given) -> Result<Ran, String> {
-    let mut frame = given.lend("frame");
+pub static READ_TRANSFER: Call = Call {
+    name: "radio_read_transfer",
+    arguments: &[
+        argument("input", &kind::BYTES),
+        argument("receivers", &kind::NUMBER),
+        argument("iq", &kind::I32),
+        argument("mic", &kind::I16),
+        argument("status", &kind::STATUS),
+    ],
+    found: Some("frames"),
+    run: |given| read(given, "input", both::radio_read_transfer),
+};
+
+type Read = fn(&mut Lent<u8>, usize, &mut Lent<i32>, &mut Lent<i16>, &mut Lent<u32>) -> Both;
+
+fn read(given: &Given, input: &'static str, call: Read) -> Result<Ran, String> {
+    let mut input = given.lend(input);
     let (mut iq, mut mic) = (given.lend("iq"), given.lend("mic"));
     let mut status = given.lend("status");
     let receivers = given.number("receivers");
-    let both = both::radio_read(&mut frame, receivers, &mut iq, &mut mic, &mut status);
-    let after = vec![frame.into(), iq.into(), mic.into(), status.into()];
+    let both = call(&mut input, receivers, &mut iq, &mut mic, &mut status);
+    let after = vec![input.into(), iq.into(), mic.into(), status.into()];
     Ok(Ran { both, after })
 }
 
