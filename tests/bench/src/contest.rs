@@ -14,7 +14,9 @@ pub type Work<C> = fn(&mut C, &<C as Contest>::Input);
 /// the timed loop, so that neither side is spared its call.
 pub trait Contest {
     type Input;
-    const MACHINE: Option<Work<Self>>;
+    const MACHINE: Option<Work<Self>> = None;
+    /// The library's single calls that together do the same.
+    const SINGLES: Option<Work<Self>> = None;
 
     fn library(&mut self, input: &Self::Input);
     fn reference(&mut self, input: &Self::Input);
@@ -39,8 +41,14 @@ pub struct Row {
     pub library: f64,
     pub reference: f64,
     pub machine: Option<f64>,
+    pub singles: Option<f64>,
     pub copy_in: f64,
     pub copy_out: f64,
+}
+
+enum Contender<C: Contest> {
+    Call(Work<C>),
+    Copy(usize),
 }
 
 #[inline(never)]
@@ -58,12 +66,25 @@ fn time_of_copies(bytes: usize, count: usize) -> Duration {
 }
 
 impl<C: Contest> Entry<C> {
+    /// All that is timed: first what every row has.
+    fn contenders(&self) -> Vec<Contender<C>> {
+        let all = [
+            Contender::Call(C::library),
+            Contender::Call(C::reference),
+            Contender::Copy(self.bytes_in),
+            Contender::Copy(self.bytes_out),
+        ];
+        let others = [C::MACHINE, C::SINGLES].into_iter().flatten();
+        all.into_iter().chain(others.map(Contender::Call)).collect()
+    }
+
     fn check(&mut self) -> Result<(), String> {
+        let contenders = self.contenders();
         for (place, input) in self.inputs.iter().enumerate() {
-            self.contest.library(input);
-            self.contest.reference(input);
-            if let Some(machine) = C::MACHINE {
-                machine(&mut self.contest, input);
+            for contender in &contenders {
+                if let Contender::Call(work) = contender {
+                    work(&mut self.contest, input);
+                }
             }
             if !self.contest.agree() {
                 return Err(format!(
@@ -85,20 +106,15 @@ impl<C: Contest> Entry<C> {
         start.elapsed()
     }
 
-    /// The time of a contender, by its place in the row.
-    fn time(&mut self, contender: usize, count: usize) -> Duration {
-        match (contender, C::MACHINE) {
-            (0, _) => self.time_of(C::library, count),
-            (1, _) => self.time_of(C::reference, count),
-            (2, _) => time_of_copies(self.bytes_in, count),
-            (3, _) => time_of_copies(self.bytes_out, count),
-            (_, Some(machine)) => self.time_of(machine, count),
-            (_, None) => unreachable!("a contender that is not there"),
+    fn time(&mut self, contender: &Contender<C>, count: usize) -> Duration {
+        match contender {
+            Contender::Call(work) => self.time_of(*work, count),
+            Contender::Copy(bytes) => time_of_copies(*bytes, count),
         }
     }
 
     /// How many calls fill a spell.
-    fn calls_in_spell(&mut self, contender: usize) -> usize {
+    fn calls_in_spell(&mut self, contender: &Contender<C>) -> usize {
         let mut count = 16;
         loop {
             let time = self.time(contender, count);
@@ -110,27 +126,35 @@ impl<C: Contest> Entry<C> {
         }
     }
 
-    /// Checks the results, and then times every contender once a round, each round from another on.
-    pub fn row(mut self) -> Result<Row, String> {
-        self.check()?;
-        let contenders = 4 + usize::from(C::MACHINE.is_some());
-        let counts: Vec<_> = (0..contenders).map(|c| self.calls_in_spell(c)).collect();
-        let mut times = vec![Vec::with_capacity(ROUNDS); contenders];
+    /// Times every contender once a round, each round from another on.
+    fn medians(&mut self) -> Vec<f64> {
+        let contenders = self.contenders();
+        let (all, spell) = (contenders.len(), |c| self.calls_in_spell(c));
+        let counts: Vec<_> = contenders.iter().map(spell).collect();
+        let mut times = vec![Vec::with_capacity(ROUNDS); all];
         for round in 0..ROUNDS {
-            for contender in (0..contenders).map(|place| (place + round) % contenders) {
-                let time = self.time(contender, counts[contender]);
-                times[contender].push(time.as_nanos() as f64 / counts[contender] as f64);
+            for place in (0..all).map(|place| (place + round) % all) {
+                let time = self.time(&contenders[place], counts[place]);
+                times[place].push(time.as_nanos() as f64 / counts[place] as f64);
             }
         }
-        let medians: Vec<f64> = times.into_iter().map(median).collect();
+        times.into_iter().map(median).collect()
+    }
+
+    /// Checks the results, and then times the contenders.
+    pub fn row(mut self) -> Result<Row, String> {
+        self.check()?;
+        let mut medians = self.medians().into_iter();
+        let mut next = || medians.next().expect("every contender has one");
         Ok(Row {
             name: self.name,
             frames_a_call: self.frames_a_call,
-            library: medians[0],
-            reference: medians[1],
-            copy_in: medians[2],
-            copy_out: medians[3],
-            machine: medians.get(4).copied(),
+            library: next(),
+            reference: next(),
+            copy_in: next(),
+            copy_out: next(),
+            machine: C::MACHINE.map(|_| next()),
+            singles: C::SINGLES.map(|_| next()),
         })
     }
 }

@@ -165,7 +165,6 @@ impl Build {
 
 impl Contest for Build {
     type Input = Audio;
-    const MACHINE: Option<Work<Build>> = None;
 
     #[inline(never)]
     fn library(&mut self, audio: &Audio) {

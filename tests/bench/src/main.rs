@@ -14,15 +14,17 @@ const RECEIVERS: [usize; 4] = [1, 2, 4, 8];
 
 const HEADING: &str = "\
 Times are medians. A ratio above 1 means that the library is faster. The copies are of as many bytes
-as a call takes in or gives out. The number after a radio call is its receivers; a stream's frame is
-512 bytes of input, in pieces of 4,096, and of 512 where a call takes one frame.
+as a call takes in or gives out. The number after a radio call is its receivers; a transfer is eight
+frames, beside as many single calls; a stream's frame is 512 bytes of input, in pieces of 4,096, and
+of 512 where a call takes one frame.
 ";
 
-const COLUMNS: [&str; 6] = [
+const COLUMNS: [&str; 7] = [
     "call",
     "library, ns a frame",
     "reference / library",
     "state machine / library",
+    "single calls / library",
     "copy in / library",
     "copy out / library",
 ];
@@ -43,6 +45,7 @@ fn print_row(row: Row) {
         format!("{:.1}", row.library / row.frames_a_call),
         ratio(row.reference),
         row.machine.map_or("–".into(), ratio),
+        row.singles.map_or("–".into(), ratio),
         ratio(row.copy_in),
         ratio(row.copy_out),
     ];
@@ -53,6 +56,9 @@ fn print_table() -> Result<(), String> {
     print_heading();
     for receivers in RECEIVERS {
         print_row(radio::Read::entry(receivers).row()?);
+    }
+    for receivers in [1, 8] {
+        print_row(radio::Transfer::entry(receivers).row()?);
     }
     for receivers in RECEIVERS {
         print_row(radio::Write::entry(receivers).row()?);

@@ -67,8 +67,8 @@ struct Buffers<R> {
 }
 
 impl<R> Buffers<R> {
-    fn new(receivers: usize, status: R) -> Buffers<R> {
-        let slots = slots(receivers);
+    fn new(receivers: usize, frames: usize, status: R) -> Buffers<R> {
+        let slots = frames * slots(receivers);
         Buffers {
             iq: vec![0; 2 * receivers * slots],
             mic: vec![0; slots],
@@ -80,22 +80,42 @@ impl<R> Buffers<R> {
 
 impl Buffers<[u32; 26]> {
     #[inline(always)]
-    fn read(&mut self, call: machine::RadioRead, receivers: usize, frame: &Frame) {
+    fn read(&mut self, call: machine::RadioRead, receivers: usize, input: &[u8]) {
+        self.found = self.read_to_slot(0, call, receivers, input) >> 8;
+    }
+
+    /// What the call returns. Its values go behind those of so many slots.
+    #[inline(always)]
+    fn read_to_slot(
+        &mut self,
+        slot: usize,
+        call: machine::RadioRead,
+        receivers: usize,
+        input: &[u8],
+    ) -> u32 {
+        let (iq, mic) = (&mut self.iq[2 * receivers * slot..], &mut self.mic[slot..]);
         // SAFETY: the slices are whole and apart.
-        let returned = unsafe {
+        unsafe {
             call(
-                frame.as_ptr(),
-                frame.len(),
+                input.as_ptr(),
+                input.len(),
                 receivers,
-                self.iq.as_mut_ptr(),
-                self.iq.len(),
-                self.mic.as_mut_ptr(),
-                self.mic.len(),
+                iq.as_mut_ptr(),
+                iq.len(),
+                mic.as_mut_ptr(),
+                mic.len(),
                 self.status.as_mut_ptr(),
                 self.status.len(),
             )
-        };
-        self.found = returned >> 8;
+        }
+    }
+
+    /// Whether the call left and found what the reference did.
+    fn agrees(&self, reference: &Buffers<Status>) -> bool {
+        let mut cells = [0; STATUS_MOST.len()];
+        cells::status_into(&reference.status, &mut cells);
+        let (iq, mic) = (&reference.iq, &reference.mic);
+        (self.found, &self.iq, &self.mic, &self.status) == (reference.found, iq, mic, &cells)
     }
 }
 
@@ -112,9 +132,9 @@ impl Read {
             name: format!("radio read, {receivers}"),
             contest: Read {
                 receivers,
-                library: Buffers::new(receivers, fresh_cells()),
-                machine: Buffers::new(receivers, fresh_cells()),
-                reference: Buffers::new(receivers, Status::fresh()),
+                library: Buffers::new(receivers, 1, fresh_cells()),
+                machine: Buffers::new(receivers, 1, fresh_cells()),
+                reference: Buffers::new(receivers, 1, Status::fresh()),
             },
             inputs: frames(receivers),
             frames_a_call: 1.0,
@@ -152,17 +172,78 @@ impl Contest for Read {
     }
 
     fn agree(&self) -> bool {
-        let mut cells = [0; STATUS_MOST.len()];
-        cells::status_into(&self.reference.status, &mut cells);
-        [&self.library, &self.machine].into_iter().all(|door| {
-            (door.found, &door.iq, &door.mic, &door.status)
-                == (
-                    self.reference.found,
-                    &self.reference.iq,
-                    &self.reference.mic,
-                    &cells,
-                )
-        })
+        self.library.agrees(&self.reference) && self.machine.agrees(&self.reference)
+    }
+}
+
+/// Those of a transfer, one after another.
+type Frames = Box<[u8]>;
+
+const FRAMES_A_TRANSFER: usize = 8;
+
+pub struct Transfer {
+    receivers: usize,
+    slots: usize,
+    library: Buffers<[u32; 26]>,
+    singles: Buffers<[u32; 26]>,
+    reference: Buffers<Status>,
+}
+
+impl Transfer {
+    pub fn entry(receivers: usize) -> Entry<Transfer> {
+        let frames = frames(receivers);
+        let transfers = frames.chunks_exact(FRAMES_A_TRANSFER);
+        Entry {
+            name: format!("radio read transfer, {receivers}"),
+            contest: Transfer {
+                receivers,
+                slots: slots(receivers),
+                library: Buffers::new(receivers, FRAMES_A_TRANSFER, fresh_cells()),
+                singles: Buffers::new(receivers, FRAMES_A_TRANSFER, fresh_cells()),
+                reference: Buffers::new(receivers, FRAMES_A_TRANSFER, Status::fresh()),
+            },
+            inputs: transfers.map(|frames| frames.concat().into()).collect(),
+            frames_a_call: FRAMES_A_TRANSFER as f64,
+            bytes_in: FRAMES_A_TRANSFER * size_of::<Frame>(),
+            bytes_out: FRAMES_A_TRANSFER * bytes_of_samples(receivers),
+        }
+    }
+
+    /// The loop that a caller writes around the single read.
+    #[inline(never)]
+    fn singles(&mut self, input: &Frames) {
+        let (receivers, call) = (self.receivers, raw::hpsdr_radio_read);
+        self.singles.found = 0;
+        for (number, frame) in input.chunks_exact(size_of::<Frame>()).enumerate() {
+            let slot = number * self.slots;
+            if self.singles.read_to_slot(slot, call, receivers, frame) & 0xff != 0 {
+                return;
+            }
+            self.singles.found += 1;
+        }
+    }
+}
+
+impl Contest for Transfer {
+    type Input = Frames;
+    const SINGLES: Option<Work<Transfer>> = Some(Transfer::singles);
+
+    #[inline(never)]
+    fn library(&mut self, input: &Frames) {
+        self.library
+            .read(raw::hpsdr_radio_read_transfer, self.receivers, input);
+    }
+
+    #[inline(never)]
+    fn reference(&mut self, input: &Frames) {
+        let own = &mut self.reference;
+        let (iq, mic) = (&mut own.iq, &mut own.mic);
+        let read = reference::radio_read_transfer(input, self.receivers, iq, mic, &mut own.status);
+        own.found = read.map_or(u32::MAX, |frames| frames as u32);
+    }
+
+    fn agree(&self) -> bool {
+        self.library.agrees(&self.reference) && self.singles.agrees(&self.reference)
     }
 }
 
@@ -195,7 +276,6 @@ impl Write {
 
 impl Contest for Write {
     type Input = Samples;
-    const MACHINE: Option<Work<Write>> = None;
 
     #[inline(never)]
     fn library(&mut self, samples: &Samples) {
