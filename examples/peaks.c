@@ -24,21 +24,30 @@ struct summary {
 
 static int32_t larger(int32_t peak, int32_t value) { return abs(value) > peak ? abs(value) : peak; }
 
-static void take_frame(struct summary *summary, const uint8_t *frame) {
+static void take_samples(struct summary *summary, const struct hpsdr_transfer *transfer, size_t frames) {
     const size_t n = summary->receivers;
-    struct hpsdr_samples samples;
-    if (hpsdr_answer_of(hpsdr_read(frame, n, &samples, &summary->status)) != HPSDR_ACCEPTED) {
-        summary->refused++;
-        return;
-    }
-    summary->read++;
     struct hpsdr_row row;
     hpsdr_row_of(n, &row);
-    for (size_t slot = 0; slot < row.slots; slot++)
+    for (size_t slot = 0; slot < frames * row.slots; slot++)
         for (size_t r = 0; r < n; r++) {
-            summary->peaks[r] = larger(summary->peaks[r], hpsdr_i(&samples, n, r, slot));
-            summary->peaks[r] = larger(summary->peaks[r], hpsdr_q(&samples, n, r, slot));
+            summary->peaks[r] = larger(summary->peaks[r], hpsdr_transfer_i(transfer, n, r, slot));
+            summary->peaks[r] = larger(summary->peaks[r], hpsdr_transfer_q(transfer, n, r, slot));
         }
+}
+
+/* Frames that stand one after another. Where one is refused, the reading goes on with the frame behind it. */
+static void take_frames(struct summary *summary, const uint8_t *frames, size_t count) {
+    static struct hpsdr_transfer transfer;
+    while (count > 0) {
+        const uint32_t got =
+            hpsdr_read_transfer(frames, HPSDR_FRAME * count, summary->receivers, &transfer, &summary->status);
+        const size_t read = hpsdr_found_in(got), refused = hpsdr_answer_of(got) != HPSDR_ACCEPTED;
+        take_samples(summary, &transfer, read);
+        summary->read += read;
+        summary->refused += refused;
+        frames += HPSDR_FRAME * (read + refused);
+        count -= read + refused;
+    }
 }
 
 static bool take_recording(struct summary *summary, FILE *recording) {
@@ -50,8 +59,7 @@ static bool take_recording(struct summary *summary, FILE *recording) {
             fprintf(stderr, "peaks: the stream reader refused: %s\n", hpsdr_answer_sentence(hpsdr_answer_of(got)));
             return false;
         }
-        for (uint32_t frame = 0; frame < hpsdr_found_in(got); frame++)
-            take_frame(summary, output + HPSDR_FRAME * frame);
+        take_frames(summary, output, hpsdr_found_in(got));
     }
     if (ferror(recording))
         perror("peaks: standard input");
