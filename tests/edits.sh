@@ -57,16 +57,23 @@ apply() { # EDIT COPY
     [ "$pairs" -gt 0 ]
 }
 
-# A repository of its own for one edit: the crate as a copy, its incremental folder by links, the rest by reference.
+# A repository of its own for one check, with what is proved by reference. rt notes in target/log how the crates below
+# are, and two checks at a time in one repository read each other's notes.
+open_room() { # ROOM
+    rm -rf "$1"
+    mkdir -p "$1/crates" "$1/target"
+    cp crates.txt "$1"
+    ln -s "$root/target/rlib" "$root/target/stamp" "$1/target"
+}
+
+# One for an edit: the crate as a copy, its incremental folder by links, the other crates by reference.
 furnish() { # CRATE ROOM
-    rm -rf "$2"
-    mkdir -p "$2/crates" "$2/target/inc"
-    cp crates.txt "$2"
+    open_room "$2"
     for other in crates/*; do
         [ "$other" = "crates/$1" ] || ln -s "$root/$other" "$2/$other"
     done
     cp -R "crates/$1" "$2/crates"
-    ln -s "$root/target/rlib" "$root/target/stamp" "$2/target"
+    mkdir "$2/target/inc"
     cp -al "target/inc/$1" "$2/target/inc"
 }
 
@@ -108,11 +115,16 @@ each() { # COMMAND WORDS
     wait
 }
 
+# Checks a crate as it is, so that its incremental folder is there.
 prime() {
-    rt dev "$1" >"$rooms/$1.primed" 2>&1 || { echo "$1" >>"$failed"; cat "$rooms/$1.primed"; }
+    room=$rooms/$1.primed
+    open_room "$room"
+    ln -s "$root"/crates/* "$room/crates"
+    ln -s "$root/target/inc" "$room/target"
+    (cd "$room" && rt dev "$1") >"$room/said" 2>&1 || { echo "$1" >>"$failed"; cat "$room/said"; }
 }
 
-mkdir -p "$rooms"
+mkdir -p "$rooms" target/inc
 failed=$rooms/failed
 : >"$failed"
 [ $# -gt 0 ] || set -- $(ls crates)
