@@ -98,7 +98,7 @@ static inline const char *hpsdr_answer_name(uint32_t answer) {
 #define HPSDR_MOST_RECEIVERS 8
 #define HPSDR_MOST_IQ 160       /* the most I and Q values of a radio frame: 2 times 8 receivers times 10 slots */
 #define HPSDR_MOST_MIC 63       /* the most microphone values of a radio frame: the slots of one receiver */
-#define HPSDR_MOST_FRAMES 8     /* frames of the longest transfer: as many as a stream hands out in one call */
+#define HPSDR_MOST_FRAMES 8     /* frames of the longest transfer: the most that a stream hands out in a call */
 #define HPSDR_AUDIO 252         /* numbers of a host frame: L, R, I, Q, 63 times */
 #define HPSDR_PIECE_MOST 4096   /* bytes of the longest piece that a stream is fed */
 #define HPSDR_OUTPUT_LEAST 4096 /* bytes of the shortest output that a stream is lent: eight frames */

@@ -6,4 +6,5 @@ pub mod InOrder
 pub mod Single
 pub mod SingleReads
 pub mod Untouched
+pub mod GoodFrames
 pub mod Settled

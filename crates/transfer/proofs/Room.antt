@@ -2,7 +2,7 @@
 use mathlib.Core.Path.{_≡_, ap, _∙_}
 use mathlib.Core.List.{List, _++_, append-nil}
 use Prim.Native.Nat.{ℕ, _+_, _-_, _*_, _<_, _≤_}
-use native.Mathlib.Nat.{mul-le-mul-right, le-trans}
+use native.Mathlib.Nat.{mul-le-mul-right, suc-mul, le-trans}
 use native.Mathlib.Omega.{arith}
 use borrow.Rule.Slice.PartMut.{putMid, post-is}
 use lib.ListN.{length, take, drop, length-drop}
@@ -12,15 +12,19 @@ use lib.Seq.{take-all, drop-length}
 pub few-in-all : (frames values : ℕ) → frames ≤ 8 → values ≤ 504 → frames * values ≤ 4032
 few-in-all frames values few most = le-trans (mul-le-mul-right values few) (omega arith)
 
--- the place where the values of frame k begin, in a slice that has room for those of all frames
+-- the values of frame k end within those of all frames
+pub part-inside : (k frames values room : ℕ) → k < frames → frames * values ≤ room → k * values + values ≤ room
+part-inside k frames values room below all = rw (← suc-mul k values) (le-trans (mul-le-mul-right values below) all)
+
+-- the place where they begin, in a slice that has room for those of all frames
 pub record Starts (k values room : ℕ) : Type 0 where
   pub early : k * values ≤ 4032
   pub inside : k * values ≤ room
 
 pub starts : (k frames values room : ℕ) → k < frames → frames ≤ 8 → values ≤ 504 → frames * values ≤ room → Starts k values room
 starts k frames values room below few most all =
-    let before : k * values ≤ frames * values = mul-le-mul-right values (omega arith) in
-    record { early = omega (arith, few-in-all frames values few most); inside = le-trans before all }
+    let within = part-inside k frames values (frames * values) below (omega arith) in
+    record { early = omega (arith, few-in-all frames values few most, within); inside = omega (arith, within) }
 
 module _ {A : Type 0} (at : ℕ) (xs : List A) (inside : at ≤ length xs) where
   -- all from a place on, lent and given back

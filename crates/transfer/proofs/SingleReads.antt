@@ -1,6 +1,6 @@
 -- A transfer is as many single reads as it says, each on what the one before left. Assumes nothing.
 use mathlib.Core.Path.{_≡_, refl, sym, ap, subst⁻¹, _∙_}
-use mathlib.Core.Bool.{true, false, cond}
+use mathlib.Core.Bool.{true, false, cond, false≢true}
 use mathlib.Core.List.{List, [], _∷_, _++_}
 use Prim.Native.Nat.{ℕ, zero, suc, _+_, _*_, _<_, _≤_}
 use native.Mathlib.Nat.{le-trans}
@@ -64,7 +64,7 @@ module _ (input : List ℕ) (n : ℕ) (given : Standing) where
       record {
         left = none-changed k refused ∙ ap after (sym same);
         read = λ j less. before j (omega (arith, same));
-        stopped = λ _. ap (λ j. singleAnswer input n j given) same;
+        stopped = λ _. (ap (λ j. singleAnswer input n j given) same, refused);
         finished = λ over. absurd (omega (arith, same));
         no-more = omega (arith, same);
       }
@@ -110,6 +110,26 @@ module _ (input : List ℕ) (n : ℕ) (given : Standing) where
       by-test (accepts (one k .reading .answer))
       (λ accepted. subst⁻¹ (AsSingleReads input n given) (sym (goes-on-here k below accepted)) (run m (suc k) (omega arith) (one-more-accepted k before accepted)))
       (λ refused. subst⁻¹ (AsSingleReads input n given) (sym (stops-here k below refused)) (stopped-at k below before refused))
+
+-- the sentence leaves nothing open: two outcomes of which it is true coincide
+module _ (input : List ℕ) (n : ℕ) (given : Standing) where
+  -- none of them read fewer frames than the other
+  not-fewer : (o o′ : Outcome) → AsSingleReads input n given o → AsSingleReads input n given o′ → o .frames < o′ .frames → ⊥
+  not-fewer o o′ one other fewer =
+      let stop = one .stopped (omega (arith, other .no-more)) in
+      false≢true (sym (stop .1) ∙ ap accepts (sym (stop .0) ∙ other .read (o .frames) fewer))
+
+  pub only-outcome : (o o′ : Outcome) → AsSingleReads input n given o → AsSingleReads input n given o′ → o ≡ o′
+  only-outcome o o′ one other =
+      let below : o .frames < o′ .frames → ⊥ = not-fewer o o′ one other in
+      let above : o′ .frames < o .frames → ⊥ = not-fewer o′ o other one in
+      let frames : o .frames ≡ o′ .frames = by-order (o .frames) (o′ .frames) (λ less. absurd (below less)) (λ more. by-order (o′ .frames) (o .frames) (λ less. absurd (above less)) (λ fewer. omega arith)) in
+      let standing : standingIn o ≡ standingIn o′ = one .left ∙ ap (λ k. singleReads input n k given) frames ∙ sym (other .left) in
+      let answer : o .answer ≡ o′ .answer =
+      by-order (o .frames) (count (length input))
+      (λ less. sym (one .stopped less .0) ∙ ap (λ k. singleAnswer input n k given) frames ∙ other .stopped (omega (arith, frames)) .0)
+      (λ all. one .finished all ∙ sym (other .finished (omega (arith, frames)))) in
+      (λ i. record { answer = answer i; frames = frames i; status = standing i .status; iq = standing i .iq; mic = standing i .mic })
 
 -- a transfer that no test of the whole input refused
 pub equals-single-reads : (input : List ℕ) (n : ℕ) (iq mic : List ℤ) (s : Status) → answerOf (length input) n (length iq) (length mic) ≡ Accepted → AsSingleReads input n (record { status = s; iq = iq; mic = mic }) (transferOf input n iq mic s)

@@ -2,7 +2,7 @@
 use mathlib.Core.Path.{_≡_, refl, sym, ap, _∙_}
 use mathlib.Core.List.{List, _++_}
 use Prim.Native.Nat.{ℕ, zero, suc, _+_, _*_, _≤_}
-use native.Mathlib.Nat.{suc-mul, mul-le-mul-right, le-trans}
+use native.Mathlib.Nat.{suc-mul}
 use native.Mathlib.Omega.{arith}
 use lib.IntN.{ℤ}
 use lib.ListN.{length, take, drop, length-append, length-drop}
@@ -12,6 +12,7 @@ use Rattle.radio_status.specs.declared.record.Status.{Status}
 use Rattle.transfer.specs.SingleReads.{Standing, singleReads, Untouched}
 use Rattle.transfer.specs.Transfer.{count, frameAt, transferOf}
 use Rattle.transfer.proofs.Cases.{good}
+use Rattle.transfer.proofs.Room.{part-inside}
 use Rattle.transfer.proofs.Single.{keeps-iq, keeps-mic}
 use Rattle.transfer.proofs.SingleReads.{equals-single-reads, by-begun}
 
@@ -43,16 +44,13 @@ module _ {A : Type 0} (v k : ℕ) (xs₀ xs : List A) (kept : Kept v k xs₀ xs)
       }
 
 module _ (input : List ℕ) (n frames : ℕ) (given : Standing) (iq-room : frames * values n ≤ length (given .iq)) (mic-room : frames * slots n ≤ length (given .mic)) where
-  part-inside : (k v room : ℕ) → suc k ≤ frames → frames * v ≤ room → k * v + v ≤ room
-  part-inside k v room below all = rw (← suc-mul k v) (le-trans (mul-le-mul-right v below) all)
-
-  reads-keep : (k : ℕ) → k ≤ frames → Kept (values n) k (given .iq) (singleReads input n k given .iq) × Kept (slots n) k (given .mic) (singleReads input n k given .mic)
+  pub reads-keep : (k : ℕ) → k ≤ frames → Kept (values n) k (given .iq) (singleReads input n k given .iq) × Kept (slots n) k (given .mic) (singleReads input n k given .mic)
   reads-keep zero few = (record { long = refl; behind = refl }, record { long = refl; behind = refl })
   reads-keep (suc k) few =
       let before = singleReads input n k given in
       let kept = reads-keep k (omega arith) in
-      let iq-part = part-inside k (values n) (length (given .iq)) few iq-room in
-      let mic-part = part-inside k (slots n) (length (given .mic)) few mic-room in
+      let iq-part = part-inside k frames (values n) (length (given .iq)) few iq-room in
+      let mic-part = part-inside k frames (slots n) (length (given .mic)) few mic-room in
       let iq-rest = drop (k * values n) (before .iq) in
       let mic-rest = drop (k * slots n) (before .mic) in
       let iq-kept = keeps-iq (frameAt input k) n iq-rest mic-rest (before .status) (next-room (values n) k (given .iq) (before .iq) (kept .0) iq-part) in

@@ -1,9 +1,11 @@
 -- What change request T-01 says of a transfer, "proved equal to that many single reads", in its own words. Assumes nothing.
 use Prim.Native.Nat.{ℕ, zero, suc, _*_, _<_, _≤_}
+use mathlib.Core.Bool.{false}
 use mathlib.Core.Path.{_≡_}
 use mathlib.Core.List.{List, _++_}
 use lib.IntN.{ℤ}
 use lib.ListN.{length, take, drop}
+use Rattle.wire.specs.Answers.{accepts}
 use Rattle.wire.specs.declared.Answer.{Answer}
 use Rattle.wire.specs.declared.Answer.the-variants.{Accepted}
 use Rattle.layout.specs.Slots.{slots, values}
@@ -46,7 +48,7 @@ singleAnswer input n k given = readAt input n k (singleReads input n k given) .r
 pub record AsSingleReads (input : List ℕ) (n : ℕ) (given : Standing) (o : Outcome) : Type 0 where
   pub left : standingIn o ≡ singleReads input n (o .frames) given
   pub read : (k : ℕ) → k < o .frames → singleAnswer input n k given ≡ Accepted
-  pub stopped : o .frames < count (length input) → singleAnswer input n (o .frames) given ≡ o .answer
+  pub stopped : o .frames < count (length input) → (singleAnswer input n (o .frames) given ≡ o .answer) × (accepts (o .answer) ≡ false)
   pub finished : count (length input) ≤ o .frames → o .answer ≡ Accepted
   pub no-more : o .frames ≤ count (length input)
 

@@ -46,10 +46,10 @@ mul-read : tie.Need-mul-read
 mul-read c = let at = iq-starts (c .before .before) in omega (arith, at .early)
 
 sub-read-2 : tie.Need-sub-read-2
-sub-read-2 c = iq-starts (c .before .before) .inside
+sub-read-2 c = let at = iq-starts (c .before .before) in omega (arith, at .inside)
 
 part-read-start-2 : tie.Need-part-read-start-2
-part-read-start-2 c = iq-starts (c .before .before) .inside
+part-read-start-2 c = let at = iq-starts (c .before .before) in omega (arith, at .inside)
 
 part-read-end-2 : tie.Need-part-read-end-2
 part-read-end-2 c = search needs
@@ -58,10 +58,10 @@ mul-read-2 : tie.Need-mul-read-2
 mul-read-2 c = let at = mic-starts (c .before .before .before) in omega (arith, at .early)
 
 sub-read-3 : tie.Need-sub-read-3
-sub-read-3 c = mic-starts (c .before .before .before) .inside
+sub-read-3 c = let at = mic-starts (c .before .before .before) in omega (arith, at .inside)
 
 part-read-start-3 : tie.Need-part-read-start-3
-part-read-start-3 c = mic-starts (c .before .before .before) .inside
+part-read-start-3 c = let at = mic-starts (c .before .before .before) in omega (arith, at .inside)
 
 part-read-end-3 : tie.Need-part-read-end-3
 part-read-end-3 c = search needs
