@@ -4,3 +4,4 @@ pub mod Copied
 pub mod Joined
 pub mod Cases
 pub mod Back
+pub mod Parts

@@ -1,12 +1,13 @@
 -- Records as cells: a number for each field. Assumes nothing.
-use Prim.Native.Nat.{ℕ, _+_, _*_, _%_, _^_}
+use Prim.Native.Nat.{ℕ, _+_, _*_, _/_, _%_, _^_}
 use mathlib.Core.Bool.{Bool, true, false, cond, _&&_}
 use mathlib.Core.List.{List, [], _∷_}
+use mathlib.Core.Path.{_≡_}
 use lib.Dec.{eqb, leb, ltb}
 use lib.ListN.{getD, length}
 use lib.Seq.{sets}
 use mir.Val.{boolByte}
-use Rattle.wire.specs.Answers.{numberOf, accepts}
+use Rattle.wire.specs.Answers.{numberOf, placeOf, accepts}
 use Rattle.wire.specs.declared.Answer.{Answer}
 use Rattle.wire.specs.declared.Answer.the-variants.{BadState}
 
@@ -27,9 +28,26 @@ cellOf b = boolByte b
 abbrev pub number : ℕ → List ℕ → ℕ → ℕ
 number w cs i = getD cs i 0 % 2 ^ w
 
--- what a call returns: its answer in bits 7 to 0, and what it found in the bits above
+-- what a call returns: its answer in bits 7 to 0 and, of one that carries a place, that in bits 31 to 16, as `told` has it; and what it
+-- found in bits 15 to 8
 abbrev pub got : ℕ → ℕ → ℕ
 got answer found = answer + 256 * found
+
+-- the three parts, as a caller takes them from what was returned
+abbrev pub answerIn : ℕ → ℕ
+answerIn returned = returned % 2 ^ 8
+
+abbrev pub foundIn : ℕ → ℕ
+foundIn returned = returned / 2 ^ 8 % 2 ^ 8
+
+abbrev pub placeIn : ℕ → ℕ
+placeIn returned = returned / 2 ^ 16
+
+-- what was returned tells an answer, its place, and what was found
+pub record Tells (returned : ℕ) (answer : Answer) (found : ℕ) : Type 0 where
+  pub number : answerIn returned ≡ numberOf answer
+  pub found-is : foundIn returned ≡ found
+  pub place : placeIn returned ≡ placeOf answer
 
 -- the refusal of cells that can be no record
 abbrev pub badState : ℕ

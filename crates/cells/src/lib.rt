@@ -3,10 +3,11 @@
 // No function here has a `requires`: each takes what it is given, and where there are too few cells nothing
 // is written. `specs/` has what each one means.
 ghost use mathlib.Core.Path.{_≡_};
-ghost use Rattle.wire.specs.Answers.{numberOf};
+ghost use Rattle.wire.specs.Answers.{told};
 ghost use Rattle.cells.specs.Cells.{within, got, putOver, keptOver, wrote, offered};
 use wire::Answer;
 use wire::number;
+use wire::tell;
 
 // The number of the refusal of cells that can be no record.
 pub const BAD_STATE: u32 = 1;
@@ -56,17 +57,16 @@ pub fn offer(cells: &mut [u32], fields: &[u32]) -> u32
     0
 }
 
-// What a call returns, by its answer and what it found; accepted, the fields of its record are put over the
-// first of the cells.
+// What a call returns, by its answer with the place and by what it found; accepted, the fields of its record
+// are put over the first of the cells.
 pub fn settle(answer: Answer, found: u8, fields: &[u32], cells: &mut [u32]) -> u32
-    ensures { λ r. ⌜ r ≡ got (numberOf answer) found ⌝ }
+    ensures { λ r. ⌜ r ≡ got (told answer) found ⌝ }
     ensures { λ _. ⌜ now (cells .exit) ≡ keptOver answer (now (fields .entry)) (now (cells .entry)) ⌝ }
 {
-    let number = number(answer);
-    let got = number as u32 + 256 * (found as u32);
-    if number != 0 {
-        return got;
+    let found = 256 * (found as u32);
+    if number(answer) != 0 {
+        return tell(answer) + found;
     }
     put(cells, 0, fields);
-    got
+    found
 }

@@ -47,14 +47,14 @@ pub three-lines : map contentOf (lines text) ≡ frameFrom 0x7f ∷ frameFrom 0x
 unfolding line1 line2 frameFrom
 three-lines = ap (map contentOf) split
 
--- "1 0 1 1 0 0", "2 6 - - - -", "3 3 - - - -"
-pub three-rows : textOf 1 Accepted 1 true false false ∷ textOf 2 NoSync 0 false false false ∷ textOf 3 Length 0 false false false ∷ []
+-- "1 0 1 1 0 0", "2 6 - - - -", "3 3 - - - -": of a refusal its number alone
+pub three-rows : (byte : ℕ) → textOf 1 Accepted 1 true false false ∷ textOf 2 (NoSync byte) 0 false false false ∷ textOf 3 Length 0 false false false ∷ []
     ≡ (0x31 ∷ 0x20 ∷ 0x30 ∷ 0x20 ∷ 0x31 ∷ 0x20 ∷ 0x31 ∷ 0x20 ∷ 0x30 ∷ 0x20 ∷ 0x30 ∷ 0x0a ∷ [])
     ∷ (0x32 ∷ 0x20 ∷ 0x36 ∷ 0x20 ∷ 0x2d ∷ 0x20 ∷ 0x2d ∷ 0x20 ∷ 0x2d ∷ 0x20 ∷ 0x2d ∷ 0x0a ∷ [])
     ∷ (0x33 ∷ 0x20 ∷ 0x33 ∷ 0x20 ∷ 0x2d ∷ 0x20 ∷ 0x2d ∷ 0x20 ∷ 0x2d ∷ 0x20 ∷ 0x2d ∷ 0x0a ∷ [])
     ∷ []
 unfolding decimalIn decimalOf textOf
-three-rows = refl
+three-rows byte = refl
 
 -- 1,023 digits, 1,025, an `F` among them, and a carriage return after them
 pub near-misses : map contentOf (zeros 1023 ∷ zeros 1025 ∷ (0x46 ∷ zeros 1023) ∷ (zeros 1024 ++ (0x0d ∷ [])) ∷ []) ≡ noFrame ∷ noFrame ∷ noFrame ∷ noFrame ∷ []

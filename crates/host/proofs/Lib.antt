@@ -7,3 +7,4 @@ pub mod BuildCases
 pub mod BuiltFrame
 pub mod WhollySent
 pub mod RoundTrip
+pub mod WhichByte

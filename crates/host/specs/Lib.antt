@@ -1,3 +1,4 @@
 pub mod Read
 pub mod Build
 pub mod Exchange
+pub mod WhichByte

@@ -6,9 +6,9 @@ use lib.Dec.{eqb, ltb}
 use lib.IntN.{ℤ}
 use lib.ListN.{length, getD}
 use Rattle.wire.specs.Answers.{Test, _gives_, first, accepts}
-use Rattle.wire.specs.Sync.{syncAt}
+use Rattle.wire.specs.Sync.{syncAt, noSync}
 use Rattle.wire.specs.declared.Answer.{Answer}
-use Rattle.wire.specs.declared.Answer.the-variants.{Accepted, Length, ShortBuffer, NoSync}
+use Rattle.wire.specs.declared.Answer.the-variants.{Accepted, Length, ShortBuffer}
 use Rattle.host_samples.specs.Samples.{payloadOf, numbers}
 use Rattle.host_words.specs.Words.{address, unassigned, after}
 use Rattle.host.specs.declared.Reading.{Reading}
@@ -24,7 +24,7 @@ abbrev pub refusals : List ℕ → ℕ → List Test
 refusals f room =
     not (eqb (length f) 512) gives Length
     ∷ ltb room 252 gives ShortBuffer
-    ∷ not (syncAt f 0) gives NoSync
+    ∷ not (syncAt f 0) gives noSync f
     ∷ unassigned (controlOf f)
 
 -- all that a caller has afterwards

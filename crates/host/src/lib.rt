@@ -22,6 +22,7 @@ use host_words::next;
 use host_words::reserved;
 use wire::Answer;
 use wire::number;
+use wire::sync::no_sync;
 use wire::sync::sync_at;
 
 // The address of the word that came, and the record after it.
@@ -31,7 +32,8 @@ pub struct Reading {
     pub host: Host,
 }
 
-// Reads a host frame: its 252 numbers over the start of audio, its word into the record.
+// Reads a host frame: its 252 numbers over the start of audio, its word into the record. Refused for its sync it
+// says which byte, and for an unassigned code or bit which one.
 pub fn read(frame: &[u8], audio: &mut [i16], host: Host) -> Reading
     ensures { λ r. ⌜ gave r (now (audio .exit)) ≡ readOf (now (frame .entry)) (now (audio .entry)) host ⌝ }
 {
@@ -65,7 +67,7 @@ pub(crate) fn refusal(frame: &[u8], room: usize) -> Answer
     if sync_at(frame, 0) {
         reserved(control_of(frame))
     } else {
-        Answer::NoSync
+        no_sync(frame)
     }
 }
 

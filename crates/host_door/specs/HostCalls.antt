@@ -5,7 +5,7 @@ use mathlib.Core.Bool.{cond}
 use mathlib.Core.List.{List}
 use lib.IntN.{ℤ}
 use lib.ListN.{set}
-use Rattle.wire.specs.Answers.{numberOf, accepts}
+use Rattle.wire.specs.Answers.{numberOf, told, accepts}
 use Rattle.wire.specs.declared.Answer.{Answer}
 use Rattle.host.specs.Build as Build
 use Rattle.host.specs.Read as Read
@@ -24,7 +24,7 @@ gave k host audio = record { number = k; host = host; audio = audio }
 
 -- document 01's read, of the record that the cells are
 abbrev pub shown : List ℕ → Read.Outcome → Outcome
-shown cells o = gave (got (numberOf (o .answer)) (o .address)) (kept (o .answer) (hostCells (o .host)) cells) (o .audio)
+shown cells o = gave (got (told (o .answer)) (o .address)) (kept (o .answer) (hostCells (o .host)) cells) (o .audio)
 
 unfoldable pub hostReadOf : List ℕ → List ℤ → List ℕ → Outcome
 hostReadOf frame audio cells =

@@ -16,7 +16,7 @@ ghost use mathlib.Core.Path.{_≡_};
 ghost use mathlib.Core.List.{[], _∷_, _++_};
 ghost use Prim.Native.Nat.{suc, _≤_};
 ghost use lib.ListN.{length};
-ghost use Rattle.wire.specs.Answers.{numberOf};
+ghost use Rattle.wire.specs.Answers.{numberOf, told};
 ghost use Rattle.host_record.specs.Record.{fresh};
 ghost use Rattle.cells.specs.Cells.{got, kept, wrote, offered};
 ghost use Rattle.host_cells.specs.Host.{hostCount, hostCells};
@@ -36,7 +36,7 @@ pub fn host_read(frame: &[u8], audio: &mut [i16], host: &mut [u32]) -> u32
 // What a read returns; accepted, the record after it stands in the cells.
 pub(crate) fn keep(reading: Reading, cells: &mut [u32]) -> u32
     requires { ⌜ hostCount ≤ length (now cells) ⌝ }
-    ensures { λ r. ⌜ r ≡ got (numberOf (reading .answer)) (reading .address) ⌝ }
+    ensures { λ r. ⌜ r ≡ got (told (reading .answer)) (reading .address) ⌝ }
     ensures { λ _. ⌜ now (cells .exit) ≡ kept (reading .answer) (hostCells (reading .host)) (now (cells .entry)) ⌝ }
 {
     let answer = reading.answer;

@@ -1,4 +1,5 @@
 -- The laws of the words from the host: what each carries, and which records are the same.
+pub mod Causes
 pub mod LowBits
 pub mod Heard
 pub mod Carries

@@ -22,6 +22,7 @@ use host_record::record::HighPass;
 use host_record::record::Host;
 use host_record::record::LowPass;
 use wire::Answer;
+use wire::Cause;
 use wire::numbers::be32;
 
 // C0 to C4, as they stand in a frame.
@@ -33,29 +34,29 @@ pub struct Control {
     pub c4: u8,
 }
 
-// Whether the word that is carried sets an unassigned code or bit.
+// Whether the word that is carried sets an unassigned code or bit, and the first that it sets.
 pub fn reserved(c: Control) -> Answer
     ensures { λ r. ⌜ r ≡ first (unassigned c) ⌝ }
 {
     match c.c0 / 2 % 128 {
         0 => {
             if c.c1 / 4 % 4 == 3 {
-                return Answer::Reserved;
+                return Answer::Reserved(Cause::Source10);
             }
             if c.c4 % 4 == 3 {
-                return Answer::Reserved;
+                return Answer::Reserved(Cause::Relay);
             }
             Answer::Accepted
         }
         9 => {
             if c.c4 / 128 % 2 == 1 {
-                return Answer::Reserved;
+                return Answer::Reserved(Cause::Word9C4Bit7);
             }
             Answer::Accepted
         }
         10 => {
             if c.c1 / 128 % 2 == 1 {
-                return Answer::Reserved;
+                return Answer::Reserved(Cause::Word10C1Bit7);
             }
             Answer::Accepted
         }

@@ -2,3 +2,4 @@
 pub mod TransferCases
 pub mod Leaves
 pub mod Settled
+pub mod Tells

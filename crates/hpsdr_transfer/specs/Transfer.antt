@@ -5,7 +5,7 @@ use mathlib.Core.List.{List}
 use lib.Dec.{eqb}
 use lib.IntN.{ℤ}
 use lib.Seq.{sets}
-use Rattle.wire.specs.Answers.{numberOf}
+use Rattle.wire.specs.Answers.{told}
 use Rattle.transfer.specs.Transfer as Transfer
 use Rattle.cells.specs.Cells.{within, got, badState}
 use Rattle.radio_door.specs.Status.{statusMost, statusOf, statusCells}
@@ -15,10 +15,11 @@ use Rattle.radio_door.specs.Radio.{Outcome, gave}
 abbrev pub keptAfter : ℕ → List ℕ → List ℕ → List ℕ
 keptAfter frames fields cells = cond (eqb frames 0) cells (sets cells 0 fields)
 
--- the number of frames read is what was found, on acceptance and on a frame's refusal alike
+-- the number of frames read is what was found, on acceptance and on a frame's refusal alike: there it is that frame's index, from 0, and
+-- the place stands beside it
 abbrev pub shown : List ℕ → Transfer.Outcome → Outcome
 shown cells o =
-    gave (got (numberOf (o .answer)) (o .frames))
+    gave (got (told (o .answer)) (o .frames))
     (keptAfter (o .frames) (statusCells (o .status)) cells)
     (o .iq)
     (o .mic)

@@ -13,7 +13,7 @@ use transfer::Transfer;
 ghost use mathlib.Core.Path.{_≡_};
 ghost use Prim.Native.Nat.{_≤_};
 ghost use lib.ListN.{length};
-ghost use Rattle.wire.specs.Answers.{numberOf};
+ghost use Rattle.wire.specs.Answers.{told};
 ghost use Rattle.cells.specs.Cells.{got};
 ghost use Rattle.radio_door.specs.Status.{statusCells};
 ghost use Rattle.radio_door.specs.Radio.{gave};
@@ -40,12 +40,12 @@ pub extern "C" fn hpsdr_radio_read_transfer(
 // What a transfer returns; where a frame was read, the record after the last of them stands in the cells.
 pub(crate) fn keep(done: Transfer, cells: &mut [u32]) -> u32
     requires { ⌜ (26 ≤ length (now cells)) × (done .frames ≤ 8) ⌝ }
-    ensures { λ r. ⌜ r ≡ got (numberOf (done .answer)) (done .frames) ⌝ }
+    ensures { λ r. ⌜ r ≡ got (told (done .answer)) (done .frames) ⌝ }
     ensures { λ _. ⌜ now (cells .exit) ≡ keptAfter (done .frames) (statusCells (done .status)) (now (cells .entry)) ⌝ }
 {
     let answer = done.answer;
     let frames = done.frames;
-    let got = wire::number(answer) as u32 + 256 * (frames as u32);
+    let got = wire::tell(answer) + 256 * (frames as u32);
     if frames == 0 {
         return got;
     }

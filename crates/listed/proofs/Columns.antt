@@ -7,9 +7,9 @@ use Prim.Native.Nat.{ℕ}
 use native.Mathlib.Omega.{arith}
 use lib.IntN.{pos}
 use lib.ListN.{length, replicate, drop-of-length-le}
-use Rattle.wire.specs.Sync.{syncAt}
+use Rattle.wire.specs.Sync.{syncAt, noSync}
 use Rattle.wire.specs.Every.{allZero}
-use Rattle.wire.specs.declared.Answer.the-variants.{Accepted, NoSync}
+use Rattle.wire.specs.declared.Answer.the-variants.{Accepted}
 use Rattle.layout.specs.Slots.{slots, padding}
 use Rattle.radio_status.specs.Record.{freshStatus}
 use Rattle.radio_status.specs.Words.{address, dotOf, dashOf, pttOf, applied}
@@ -51,8 +51,8 @@ module _ (number : ℕ) (frame : List ℕ) (whole : length frame ≡ 512) where
       let told = keys (byte frame 3) (word frame) freshStatus in
       reads ∙ (λ i. textOf number Accepted (address (byte frame 3)) (told .0 i) (told .1 i) (told .2 i))
 
-  pub without-sync : syncAt frame 0 ≡ false → rowText number (aFrame frame) ≡ textOf number NoSync 0 false false false
+  pub without-sync : syncAt frame 0 ≡ false → rowText number (aFrame frame) ≡ textOf number (noSync frame) 0 false false false
   unfolding rowText readingOf slots textOf
   without-sync missing =
-      let is : answerOf frame 1 126 63 ≡ NoSync = answer-counted frame 1 126 63 refl ∙ no-sync frame 1 126 63 whole (omega arith) (omega arith) missing in
-      ap (λ o. shows number frame (o .reading)) (read-refused frame 1 (replicate 126 (pos 0)) (replicate 63 (pos 0)) freshStatus NoSync is refl)
+      let is : answerOf frame 1 126 63 ≡ noSync frame = answer-counted frame 1 126 63 refl ∙ no-sync frame 1 126 63 whole (omega arith) (omega arith) missing in
+      ap (λ o. shows number frame (o .reading)) (read-refused frame 1 (replicate 126 (pos 0)) (replicate 63 (pos 0)) freshStatus (noSync frame) is refl)

@@ -8,16 +8,16 @@ use lib.Dec.{ltb}
 use lib.IntN.{ℤ}
 use lib.ListN.{length, length-drop}
 use Rattle.wire.specs.Answers.{accepts, inOrder}
-use Rattle.wire.specs.Sync.{syncAt}
+use Rattle.wire.specs.Sync.{syncAt, noSync}
 use Rattle.wire.specs.declared.Answer.{Answer}
-use Rattle.wire.specs.declared.Answer.the-variants.{Accepted, BadCount, Length, ShortBuffer, NoSync, Padding}
+use Rattle.wire.specs.declared.Answer.the-variants.{Accepted, BadCount, Length, ShortBuffer}
 use Rattle.wire.proofs.Cases.{by-test, neither}
 use Rattle.wire.proofs.First.{accepted-none, accepts-only}
 use Rattle.layout.specs.Slots.{counted, slots, values}
 use Rattle.radio_status.specs.declared.record.Status.{Status}
 use Rattle.radio_samples.specs.Samples.{samplesRead}
 use Rattle.radio_samples.proofs.Roomy.{has-room, all-read}
-use Rattle.radio.specs.Read.{payload, tests, frameAnswer, padded, answerOf, taken, refused, gave, readOf}
+use Rattle.radio.specs.Read.{payload, tests, frameAnswer, padded, badPadding, answerOf, taken, refused, gave, readOf}
 use Rattle.radio.specs.declared.Reading.{Reading}
 
 -- the refusals of `read` stand in the order of the nine
@@ -40,11 +40,11 @@ module _ (frame : List ℕ) (n iq mic : ℕ) where
       few-slots short = rw (eq-eqb _ _ long, le-ltb _ _ iq-room, lt-ltb _ _ short)
 
       module _ (mic-room : slots n ≤ mic) where
-        pub no-sync : syncAt frame 0 ≡ false → frameAnswer frame n iq mic ≡ NoSync
+        pub no-sync : syncAt frame 0 ≡ false → frameAnswer frame n iq mic ≡ noSync frame
         unfolding frameAnswer
         no-sync missing = rw (eq-eqb _ _ long, le-ltb _ _ iq-room, le-ltb _ _ mic-room, missing)
 
-        pub bad-padding : syncAt frame 0 ≡ true → padded n frame ≡ false → frameAnswer frame n iq mic ≡ Padding
+        pub bad-padding : syncAt frame 0 ≡ true → padded n frame ≡ false → frameAnswer frame n iq mic ≡ badPadding n frame
         unfolding frameAnswer
         bad-padding synced dirty = rw (eq-eqb _ _ long, le-ltb _ _ iq-room, le-ltb _ _ mic-room, synced, dirty)
 
@@ -103,7 +103,12 @@ module _ (frame : List ℕ) (n : ℕ) (iq mic : List ℤ) (s : Status) where
       let whole : length (payload frame) ≡ 504 = rw (length-drop 8 frame, passed .long) in
       all-read n (payload frame) iq mic (has-room n (length iq) (length mic) (length (payload frame)) 504 (passed .is-counted) (passed .iq-room) (passed .mic-room) whole)
 
-  pub read-accepted : readOf frame n iq mic s .reading .answer ≡ Accepted → answerOf frame n (length iq) (length mic) ≡ Accepted
-  read-accepted is =
+  pub read-answer : readOf frame n iq mic s .reading .answer ≡ answerOf frame n (length iq) (length mic)
+  read-answer =
       let answer = answerOf frame n (length iq) (length mic) in
-      by-test (accepts answer) (accepts-only answer) (λ refusal. sym (ap (λ o. o .reading .answer) (read-refused answer refl refusal)) ∙ is)
+      by-test (accepts answer)
+      (λ is. let accepted = accepts-only answer is in ap (λ o. o .reading .answer) (read-taken accepted) ∙ sym accepted)
+      (λ refusal. ap (λ o. o .reading .answer) (read-refused answer refl refusal))
+
+  pub read-accepted : readOf frame n iq mic s .reading .answer ≡ Accepted → answerOf frame n (length iq) (length mic) ≡ Accepted
+  read-accepted is = sym read-answer ∙ is

@@ -10,3 +10,4 @@ pub mod FrameParts
 pub mod ReadBack
 pub mod WriteBack
 pub mod RoundTrip
+pub mod WhichByte

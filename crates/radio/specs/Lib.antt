@@ -1,3 +1,4 @@
 pub mod Read
 pub mod Export
 pub mod Write
+pub mod WhichByte

@@ -1,5 +1,5 @@
 -- Reading a radio frame: the refusals in the order of document 01's table, and the whole outcome. Assumes nothing.
-use Prim.Native.Nat.{ℕ, _-_}
+use Prim.Native.Nat.{ℕ, _+_, _-_}
 use mathlib.Core.Bool.{Bool, cond, not, _||_}
 use mathlib.Core.List.{List, [], _∷_}
 use lib.Dec.{eqb, ltb}
@@ -7,10 +7,11 @@ use lib.IntN.{ℤ}
 use lib.ListN.{length, getD, drop}
 use Rattle.wire.specs.Answers.{Test, _gives_, first, accepts}
 use Rattle.wire.specs.Lists.{over}
-use Rattle.wire.specs.Sync.{syncAt}
+use Rattle.wire.specs.Sync.{syncAt, noSync}
+use Rattle.wire.specs.Places.{firstOther}
 use Rattle.wire.specs.Every.{allZero}
 use Rattle.wire.specs.declared.Answer.{Answer}
-use Rattle.wire.specs.declared.Answer.the-variants.{Accepted, BadCount, Length, ShortBuffer, NoSync, Padding}
+use Rattle.wire.specs.declared.Answer.the-variants.{Accepted, BadCount, Length, ShortBuffer, Padding}
 use Rattle.layout.specs.Slots.{counted, slots, padding, values}
 use Rattle.radio_status.specs.Words.{wordOf, applied}
 use Rattle.radio_status.specs.declared.record.Status.{Status}
@@ -35,16 +36,23 @@ abbrev pub after : List ℕ → Status → Status
 after frame s = applied (byte frame 3) (word frame) s
 
 -- the padding is the end of the frame
+abbrev pub paddingStart : ℕ → ℕ
+paddingStart n = 512 - padding n
+
 abbrev pub padded : ℕ → List ℕ → Bool
-padded n frame = allZero (drop (512 - padding n) frame)
+padded n frame = allZero (drop (paddingStart n) frame)
+
+-- T-02: "for PADDING the first non-zero one (as a byte of the frame, from 0)"
+abbrev pub badPadding : ℕ → List ℕ → Answer
+badPadding n frame = Padding (paddingStart n + firstOther 0 (drop (paddingStart n) frame))
 
 -- the tests of a frame for n receivers, with slices of the lengths iq and mic, and before them that of the count
 abbrev pub frameTests : List ℕ → ℕ → ℕ → ℕ → List Test
 frameTests frame n iq mic =
     not (eqb (length frame) 512) gives Length
     ∷ (ltb iq (values n) || ltb mic (slots n)) gives ShortBuffer
-    ∷ not (syncAt frame 0) gives NoSync
-    ∷ not (padded n frame) gives Padding
+    ∷ not (syncAt frame 0) gives noSync frame
+    ∷ not (padded n frame) gives badPadding n frame
     ∷ []
 
 unfoldable pub frameAnswer : List ℕ → ℕ → ℕ → ℕ → Answer

@@ -3,11 +3,11 @@
 use crate::Updated;
 use radio_status::record::Status;
 ghost use mathlib.Core.Path.{_≡_};
-ghost use Rattle.wire.specs.Answers.{numberOf};
+ghost use Rattle.wire.specs.Answers.{told};
 ghost use Rattle.radio.specs.Read.{readOf};
 ghost use Rattle.radio.specs.Export.{numbered, shown};
 
-// An update that answers by number, 0 to 9.
+// An update that answers by number: 0 to 9 in bits 7 to 0, and the place in bits 31 to 16.
 #[no_mangle]
 pub extern "C" fn radio_update(
     frame: &[u8],
@@ -15,15 +15,15 @@ pub extern "C" fn radio_update(
     iq: &mut [i32],
     mic: &mut [i16],
     status: &mut Status,
-) -> u8
+) -> u32
     ensures { λ r. ⌜ shown r (now (status .exit)) (now (iq .exit)) (now (mic .exit)) ≡ numbered (readOf (now (frame .entry)) receivers (now (iq .entry)) (now (mic .entry)) (now (status .entry))) ⌝ }
 {
     number_of(crate::update(frame, receivers, iq, mic, status))
 }
 
-pub(crate) fn number_of(updated: Updated) -> u8
-    ensures { λ r. ⌜ r ≡ numberOf (updated .answer) ⌝ }
+pub(crate) fn number_of(updated: Updated) -> u32
+    ensures { λ r. ⌜ r ≡ told (updated .answer) ⌝ }
 {
     let answer = updated.answer;
-    wire::number(answer)
+    wire::tell(answer)
 }

@@ -4,7 +4,8 @@
 // `read` and `write` are the calls. Each takes what it is given: a receiver count, a frame, slices and a
 // record of any kind. It answers one of its refusals and leaves all as it was, or does its work. A read
 // gives every sample of the frame, says which word came, and hands back the record with that word's fields
-// in it; a write settles every byte of the frame.
+// in it; refused for its sync or its padding, it says which byte is wrong. A write settles every byte of the
+// frame.
 mod export;
 
 use layout::Layout;
@@ -13,9 +14,10 @@ use radio_status::record::Status;
 use radio_status::words::Word;
 use wire::Answer;
 ghost use mathlib.Core.Path.{_≡_};
-ghost use Prim.Native.Nat.{_≤_};
-ghost use lib.ListN.{length};
-ghost use Rattle.wire.specs.declared.Answer.the-variants.{Accepted};
+ghost use Prim.Native.Nat.{_+_, _≤_};
+ghost use lib.ListN.{length, drop};
+ghost use Rattle.wire.specs.Places.{firstOther};
+ghost use Rattle.wire.specs.declared.Answer.the-variants.{Accepted, Padding};
 ghost use Rattle.layout.specs.Slots.{rowOf};
 ghost use Rattle.radio_status.specs.Control.{headerOver};
 ghost use Rattle.radio_status.specs.Words.{applied};
@@ -34,7 +36,7 @@ pub struct Reading {
 
 // Reads a frame for a number of receivers: I and Q values in slot order at the start of `iq`, one
 // microphone value a slot at the start of `mic`. Longer slices keep their remainder. Its refusals, in order:
-// BAD_COUNT, LENGTH, SHORT_BUFFER, NO_SYNC, PADDING.
+// BAD_COUNT, LENGTH, SHORT_BUFFER, NO_SYNC, PADDING, the last two with the first byte that is wrong.
 pub fn read(
     frame: &[u8],
     receivers: usize,
@@ -124,11 +126,20 @@ pub(crate) fn refusal(frame: &[u8], receivers: usize, row: Row, iq: usize, mic: 
         if wire::zeros::all_zero(&frame[start..]) {
             Answer::Accepted
         } else {
-            Answer::Padding
+            bad_padding(frame, start)
         }
     } else {
-        Answer::NoSync
+        wire::sync::no_sync(frame)
     }
+}
+
+// The refusal of a frame whose padding, from a place on, is not zero: the first byte there that is not.
+pub(crate) fn bad_padding(frame: &[u8], start: usize) -> Answer
+    requires { ⌜ (length (now frame) ≡ 512) × (start ≤ 512) ⌝ }
+    ensures { λ r. ⌜ r ≡ Padding (start + firstOther 0 (drop start (now (frame .entry)))) ⌝ }
+{
+    let place = wire::places::first_other(&frame[start..], 0);
+    Answer::Padding((start + place) as u16)
 }
 
 // Writes the frame that carries a word of the record: I and Q values in slot order from the start of

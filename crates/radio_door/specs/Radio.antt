@@ -4,7 +4,7 @@ use Prim.Native.Nat.{ℕ}
 use mathlib.Core.Bool.{cond}
 use mathlib.Core.List.{List}
 use lib.IntN.{ℤ}
-use Rattle.wire.specs.Answers.{numberOf}
+use Rattle.wire.specs.Answers.{numberOf, told}
 use Rattle.radio.specs.Read as Read
 use Rattle.radio_status.specs.Words.{wordNumber}
 use Rattle.radio.specs.Write as Write
@@ -24,7 +24,7 @@ gave k status iq mic = record { number = k; status = status; iq = iq; mic = mic 
 -- document 01's read, of the record that the cells are
 abbrev pub shown : List ℕ → Read.Outcome → Outcome
 shown cells o =
-    gave (got (numberOf (o .reading .answer)) (wordNumber (o .reading .word)))
+    gave (got (told (o .reading .answer)) (wordNumber (o .reading .word)))
     (kept (o .reading .answer) (statusCells (o .reading .status)) cells)
     (o .iq)
     (o .mic)

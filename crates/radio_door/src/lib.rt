@@ -21,7 +21,7 @@ ghost use lib.ListN.{length};
 ghost use Rattle.layout.specs.Slots.{rowOf};
 ghost use Rattle.radio_status.specs.Record.{freshStatus};
 ghost use Rattle.radio_status.specs.Words.{wordNumber};
-ghost use Rattle.wire.specs.Answers.{numberOf};
+ghost use Rattle.wire.specs.Answers.{told};
 ghost use Rattle.cells.specs.Cells.{got, kept, wrote, offered};
 ghost use Rattle.radio_door.specs.Status.{statusCells};
 ghost use Rattle.radio_door.specs.Radio.{gave, radioReadOf, radioWriteOf};
@@ -47,7 +47,7 @@ pub fn radio_read(
 // What a read returns; accepted, the record after it stands in the cells.
 pub(crate) fn keep(reading: Reading, cells: &mut [u32]) -> u32
     requires { ⌜ 26 ≤ length (now cells) ⌝ }
-    ensures { λ r. ⌜ r ≡ got (numberOf (reading .answer)) (wordNumber (reading .word)) ⌝ }
+    ensures { λ r. ⌜ r ≡ got (told (reading .answer)) (wordNumber (reading .word)) ⌝ }
     ensures { λ _. ⌜ now (cells .exit) ≡ kept (reading .answer) (statusCells (reading .status)) (now (cells .entry)) ⌝ }
 {
     let answer = reading.answer;

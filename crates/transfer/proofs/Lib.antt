@@ -7,4 +7,5 @@ pub mod Single
 pub mod SingleReads
 pub mod Untouched
 pub mod GoodFrames
+pub mod WhichByte
 pub mod Settled

@@ -19,7 +19,8 @@ ghost use Rattle.transfer.specs.Steps.{Ready};
 ghost use Rattle.transfer.specs.Transfer.{transferOf, gave, noneRead, oneMore, oneByOne, answerOf, count, frameAt, framesIn};
 
 // What a transfer gives: the answer, how many frames were read, and the record after them. A refused frame and
-// those behind it are not read, and its answer is the transfer's.
+// those behind it are not read; its answer, place and all, is the transfer's, and the number of frames read is
+// its index, from 0.
 pub struct Transfer {
     pub answer: Answer,
     pub frames: usize,

@@ -8,6 +8,8 @@ pub mod Pack
 pub mod SyncCases
 pub mod Header
 pub mod Everywhere
+pub mod FirstWrong
+pub mod Named
 pub mod Lists
 pub mod Fill
 pub mod Laid

@@ -1,26 +1,50 @@
--- Document 01, "Nine refusals, in the order they are tested": their numbers, and the first that holds. Assumes nothing.
-use Prim.Native.Nat.{ℕ}
+-- Document 01, "Nine refusals, in the order they are tested": their numbers, what each carries (T-02), and the first that holds.
+-- Assumes nothing.
+use Prim.Native.Nat.{ℕ, _+_, _*_}
 use mathlib.Core.Bool.{Bool, true, cond, _&&_}
 use mathlib.Core.List.{List, [], _∷_}
 use lib.Dec.{eqb, leb}
 use Rattle.wire.specs.declared.Answer.{Answer}
+use Rattle.wire.specs.declared.Cause.{Cause}
+use Rattle.wire.specs.declared.Cause.the-variants.{Source10, Relay, Word9C4Bit7, Word10C1Bit7}
 use Rattle.wire.specs.declared.Answer.the-variants.{Accepted, BadState, BadCount, Length, ShortBuffer, StreamFull, NoSync, Padding, Reserved, Range}
 
-abbrev pub numberOf : Answer → ℕ
-numberOf Accepted = 0
-numberOf BadState = 1
-numberOf BadCount = 2
-numberOf Length = 3
-numberOf ShortBuffer = 4
-numberOf StreamFull = 5
-numberOf NoSync = 6
-numberOf Padding = 7
-numberOf Reserved = 8
-numberOf Range = 9
+-- T-02: "whether it was the 10 MHz source, the transmit relay or word 9's C4 bit 7, in that order", and T-07: word 10's C1 bit 7
+-- "placed after T-02's three"
+abbrev pub causeNumber : Cause → ℕ
+causeNumber Source10 = 1
+causeNumber Relay = 2
+causeNumber Word9C4Bit7 = 3
+causeNumber Word10C1Bit7 = 4
 
--- the nine refusals, in the order they are tested
-abbrev pub nine : List Answer
-nine = BadState ∷ BadCount ∷ Length ∷ ShortBuffer ∷ StreamFull ∷ NoSync ∷ Padding ∷ Reserved ∷ Range ∷ []
+-- The table, and T-02: "each of the three now carries its place", a byte of the frame from 0, or the number of the cause. No other answer
+-- carries anything: its place is 0.
+abbrev pub numberAndPlace : Answer → ℕ × ℕ
+numberAndPlace Accepted = (0, 0)
+numberAndPlace BadState = (1, 0)
+numberAndPlace BadCount = (2, 0)
+numberAndPlace Length = (3, 0)
+numberAndPlace ShortBuffer = (4, 0)
+numberAndPlace StreamFull = (5, 0)
+numberAndPlace (NoSync byte) = (6, byte)
+numberAndPlace (Padding byte) = (7, byte)
+numberAndPlace (Reserved cause) = (8, causeNumber cause)
+numberAndPlace Range = (9, 0)
+
+abbrev pub numberOf : Answer → ℕ
+numberOf a = numberAndPlace a .0
+
+abbrev pub placeOf : Answer → ℕ
+placeOf a = numberAndPlace a .1
+
+-- an answer as one number: its own in bits 7 to 0, and its place in bits 31 to 16
+abbrev pub told : Answer → ℕ
+told a = numberOf a + 65536 * placeOf a
+
+-- the nine refusals, in the order they are tested, whatever place three of them carry
+abbrev pub nine : ℕ → ℕ → Cause → List Answer
+nine byte padding cause =
+    BadState ∷ BadCount ∷ Length ∷ ShortBuffer ∷ StreamFull ∷ NoSync byte ∷ Padding padding ∷ Reserved cause ∷ Range ∷ []
 
 -- a test, and the refusal that it gives where it holds
 pub record Test : Type 0 where

@@ -29,10 +29,15 @@ returns-3 c =
     rw (eq-eqb _ _ (tested .before .if1 .left), le-ltb _ _ (tested .if2 .left), sym (synced .before .sync-at .ensures) ∙ synced .if3 .taken)
     (c .reserved .ensures ∙ ap (λ found. first (unassigned found)) (c .before .control-of .ensures))
 
+no-sync-requires : tie.Need-no-sync-requires
+no-sync-requires c κs = search needs
+
 returns-4 : tie.Need-returns-4
 returns-4 c =
-    let tested = c .before .before in
-    rw (eq-eqb _ _ (tested .before .if1 .left), le-ltb _ _ (tested .if2 .left), sym (c .before .sync-at .ensures) ∙ c .if3 .left)
+    let missing = c .before in
+    let tested = missing .before .before in
+    rw (eq-eqb _ _ (tested .before .if1 .left), le-ltb _ _ (tested .if2 .left), sym (missing .before .sync-at .ensures) ∙ missing .if3 .left)
+    (c .no-sync .ensures)
 
 pub refusal-spec : {M : Type 1} → statement M
 refusal-spec =
@@ -43,5 +48,6 @@ refusal-spec =
     sync-at-requires
     control-of-requires
     reserved-requires
+    no-sync-requires
     returns-3
     returns-4)

@@ -10,14 +10,11 @@ use Rattle.hpsdr_transfer.proofs.TransferCases.{kept-none, kept-some}
 use Rattle.hpsdr_transfer.proofs.keep.Statement.{statement}
 use Rattle.hpsdr_transfer.proofs.keep.Tie as tie
 
-number-requires : tie.Need-number-requires
-number-requires c κs = search needs
+tell-requires : tie.Need-tell-requires
+tell-requires c κs = search needs
 
 cast-got : tie.Need-cast-got
 cast-got c = search needs
-
-cast-got-2 : tie.Need-cast-got-2
-cast-got-2 c = search needs
 
 mul-got : tie.Need-mul-got
 mul-got c = search needs
@@ -29,7 +26,7 @@ returns : tie.Need-returns
 returns c =
     let numbered = c .before in
     let given = numbered .before .before .args in
-    (ap (λ k. k + 256 * given .done .frames) (numbered .number .ensures), sym (kept-none (given .done .frames) (statusCells (given .done .status)) (now (given .cells)) (c .if1 .taken)))
+    (ap (λ k. k + 256 * given .done .frames) (numbered .tell .ensures .0), sym (kept-none (given .done .frames) (statusCells (given .done .status)) (now (given .cells)) (c .if1 .taken)))
 
 status-cells-requires : tie.Need-status-cells-requires
 status-cells-requires c κs = search needs
@@ -52,7 +49,7 @@ returns-2 c =
     let start = numbered .before .before in
     let given = start .args in
     let cells = now (given .cells) in (
-      ap (λ k. k + 256 * given .done .frames) (numbered .number .ensures),
+      ap (λ k. k + 256 * given .done .frames) (numbered .tell .ensures .0),
       put .put .ensures
           ∙ ap (putOver cells 0) (fields .status-cells .ensures)
           ∙ put-first cells (statusCells (given .done .status)) (start .pre .0)
@@ -63,9 +60,8 @@ pub keep-spec : {M : Type 1} → statement M
 keep-spec =
     tie.close
     (tie.spec
-    number-requires
+    tell-requires
     cast-got
-    cast-got-2
     mul-got
     add-got
     returns

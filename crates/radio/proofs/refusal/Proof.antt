@@ -1,6 +1,6 @@
 -- `refusal` meets its contract: each return is a case of the tests. Assumes nothing.
 use mathlib.Core.Path.{_≡_, sym, ap, _∙_}
-use Prim.Native.Nat.{_-_, _≤_}
+use Prim.Native.Nat.{_+_, _-_, _≤_}
 use native.Mathlib.Omega.{arith}
 use denote.Ref.{now}
 use lib.ListN.{length, take, drop, length-drop}
@@ -8,6 +8,8 @@ use lib.Seq.{take-all}
 use Rattle.layout.specs.Slots.{slots, padding, values}
 use Rattle.layout.proofs.Places.{whole-payload, few-values}
 use Rattle.wire.specs.Every.{allZero}
+use Rattle.wire.specs.Places.{firstOther}
+use Rattle.wire.specs.declared.Answer.the-variants.{Padding}
 use Rattle.radio.specs.Read.{padded}
 use Rattle.radio.proofs.Cases as cases
 use borrow.Author.Needs.{needs}
@@ -74,16 +76,28 @@ returns-4 c =
     let synced = c .before .before .before in
     sym (cases.all-good _ _ _ _ (roomy .before .before .if1 .left) (iq-room (roomy .before)) (mic-room roomy) (sym (synced .before .sync-at .ensures) ∙ synced .if4 .taken) (sym (tested (c .before)) ∙ c .if5 .taken))
 
+bad-padding-requires : tie.Need-bad-padding-requires
+bad-padding-requires c κs = search needs
+
 returns-5 : tie.Need-returns-5
 returns-5 c =
-    let roomy = c .before .before .before .before .before in
-    let synced = c .before .before .before in
-    sym (cases.bad-padding _ _ _ _ (roomy .before .before .if1 .left) (iq-room (roomy .before)) (mic-room roomy) (sym (synced .before .sync-at .ensures) ∙ synced .if4 .taken) (sym (tested (c .before)) ∙ c .if5 .left))
+    let dirty = c .before in
+    let roomy = dirty .before .before .before .before .before in
+    let synced = dirty .before .before .before in
+    let given = roomy .before .before .before .before .before .args in
+    let named = ap (λ k. Padding (512 - k + firstOther 0 (drop (512 - k) (now (given .frame))))) (row-padding (roomy .before .before .before .before .before)) in
+    c .bad-padding .ensures ∙ named
+    ∙ sym (cases.bad-padding _ _ _ _ (roomy .before .before .if1 .left) (iq-room (roomy .before)) (mic-room roomy) (sym (synced .before .sync-at .ensures) ∙ synced .if4 .taken) (sym (tested (dirty .before)) ∙ dirty .if5 .left))
+
+no-sync-requires : tie.Need-no-sync-requires
+no-sync-requires c κs = search needs
 
 returns-6 : tie.Need-returns-6
 returns-6 c =
-    let roomy = c .before .before in
-    sym (cases.no-sync _ _ _ _ (roomy .before .before .if1 .left) (iq-room (roomy .before)) (mic-room roomy) (sym (c .before .sync-at .ensures) ∙ c .if4 .left))
+    let missing = c .before in
+    let roomy = missing .before .before in
+    c .no-sync .ensures
+    ∙ sym (cases.no-sync _ _ _ _ (roomy .before .before .if1 .left) (iq-room (roomy .before)) (mic-room roomy) (sym (missing .before .sync-at .ensures) ∙ missing .if4 .left))
 
 pub refusal-spec : {M : Type 1} → statement M
 refusal-spec =
@@ -100,6 +114,8 @@ refusal-spec =
     part-all-zero-start
     part-all-zero-end
     all-zero-requires
+    bad-padding-requires
+    no-sync-requires
     returns-4
     returns-5
     returns-6)

@@ -1,6 +1,6 @@
 -- `radio_door::keep` meets its contract: the word's number is found, and the record settled. Assumes nothing.
 use mathlib.Core.Path.{ap, _∙_}
-use Rattle.wire.specs.Answers.{numberOf}
+use Rattle.wire.specs.Answers.{told}
 use denote.Ref.{now}
 use Rattle.cells.specs.Cells.{got, keptOver}
 use Rattle.cells.proofs.Cases.{kept-room}
@@ -30,7 +30,7 @@ returns c =
     let fields = c .before .before .before .before .before in
     let start = fields .before .before .before in
     let given = start .args in
-    (settled .0 ∙ ap (got (numberOf (given .reading .answer))) (fields .before .word-number .ensures), settled .1 ∙ ap (λ l. keptOver (given .reading .answer) l (now (given .cells))) (fields .status-cells .ensures) ∙ kept-room (given .reading .answer) (statusCells (given .reading .status)) (now (given .cells)) (start .pre))
+    (settled .0 ∙ ap (got (told (given .reading .answer))) (fields .before .word-number .ensures), settled .1 ∙ ap (λ l. keptOver (given .reading .answer) l (now (given .cells))) (fields .status-cells .ensures) ∙ kept-room (given .reading .answer) (statusCells (given .reading .status)) (now (given .cells)) (start .pre))
 
 pub keep-spec : {M : Type 1} → statement M
 keep-spec =
