@@ -27,15 +27,18 @@
  * whichever word the frame carries, and a call that reads a frame does not refuse it. Each struct says which is which.
  * A call that only writes a record, `hpsdr_layout` or a `_fresh` one, does not look at what stands there.
  *
- * What a call returns is its answer in bits 7 to 0 and, where it says so, what it found in the bits above; on a
- * refusal it found 0, but for the frames that `hpsdr_radio_read_transfer` read before the refused one. An accepted call
- * that found something does not return 0: ask `hpsdr_answer_of`.
+ * What a call returns has three parts. Bits 7 to 0 are its answer. Bits 15 to 8 are what it found, where it says so; on
+ * a refusal it found 0, but for the frames that `hpsdr_radio_read_transfer` read before the refused one. Bits 31 to 16
+ * are the place, beside the three refusals that have one: NO_SYNC and PADDING name a byte of the frame, counted from 0,
+ * and RESERVED an `enum hpsdr_cause`; beside every other answer they are 0. So an accepted call that found something
+ * does not return 0, and a refusal is not always its number alone: ask `hpsdr_answer_of`.
  */
 #ifndef HPSDR_H
 #define HPSDR_H
 
 #include <stddef.h>
 #include <stdint.h>
+#include <stdio.h>
 
 #ifdef __cplusplus
 extern "C" {
@@ -55,11 +58,21 @@ enum hpsdr_answer {
     HPSDR_RANGE = 9
 };
 
-/* The two parts of what a call returns. */
-static inline enum hpsdr_answer hpsdr_answer_of(uint32_t got) { return (enum hpsdr_answer)(got & 0xff); }
-static inline uint32_t hpsdr_found_in(uint32_t got) { return got >> 8; }
+/* Which unassigned code or bit of a host frame is set where the answer is RESERVED. A frame carries one word, so two
+ * can be set in word 0 only, and then it is the source. What each of them says stands in `hpsdr_cause_sentence`. */
+enum hpsdr_cause {
+    HPSDR_CAUSE_SOURCE10 = 1, /* word 0: C1 bits 3-2, the 10 MHz source, are 3 */
+    HPSDR_CAUSE_RELAY = 2,    /* word 0: C4 bits 1-0, the transmit relay, are 3 */
+    HPSDR_CAUSE_WORD9_C4_BIT7 = 3,
+    HPSDR_CAUSE_WORD10_C1_BIT7 = 4
+};
 
-/* What an answer says, for people to read: that of `hpsdr_answer_of(got)`, not of `got` itself. */
+/* The three parts of what a call returns. A place means something beside NO_SYNC, PADDING and RESERVED only. */
+static inline enum hpsdr_answer hpsdr_answer_of(uint32_t got) { return (enum hpsdr_answer)(got & 0xff); }
+static inline uint32_t hpsdr_found_in(uint32_t got) { return got >> 8 & 0xff; }
+static inline uint32_t hpsdr_place_in(uint32_t got) { return got >> 16; }
+
+/* What an answer says without its place: that of `hpsdr_answer_of(got)`, not of `got` itself. */
 static inline const char *hpsdr_answer_sentence(uint32_t answer) {
     switch (answer) {
     case HPSDR_ACCEPTED: return "the call did its work";
@@ -92,6 +105,45 @@ static inline const char *hpsdr_answer_name(uint32_t answer) {
     case HPSDR_RANGE: return "RANGE";
     default: return "?";
     }
+}
+
+/* What a cause says: that of `hpsdr_place_in(got)` where the answer is RESERVED. */
+static inline const char *hpsdr_cause_sentence(uint32_t cause) {
+    switch (cause) {
+    case HPSDR_CAUSE_SOURCE10: return "the 10 MHz source has the unassigned code 3";
+    case HPSDR_CAUSE_RELAY: return "the transmit relay has the unassigned code 3";
+    case HPSDR_CAUSE_WORD9_C4_BIT7: return "word 9's C4 bit 7 is set, which is unassigned";
+    case HPSDR_CAUSE_WORD10_C1_BIT7: return "word 10's C1 bit 7 is set, which is unassigned";
+    default: return "this number is no cause";
+    }
+}
+
+#define HPSDR_TEXT 128 /* bytes that have room for every text of the next two */
+
+/* What an answer says with its place, for people to read: of `got` itself, as any call but a transfer returned it. It
+ * is written to `text`, which is given back. NO_SYNC is "sync byte 1 is not 7F", PADDING is "padding byte 509 is not
+ * zero", RESERVED is its cause's sentence, and every other answer is its `hpsdr_answer_sentence`. */
+static inline const char *hpsdr_refusal_text(uint32_t got, char text[HPSDR_TEXT]) {
+    const unsigned place = (unsigned)hpsdr_place_in(got);
+    switch (hpsdr_answer_of(got)) {
+    case HPSDR_NO_SYNC: snprintf(text, HPSDR_TEXT, "sync byte %u is not 7F", place); break;
+    case HPSDR_PADDING: snprintf(text, HPSDR_TEXT, "padding byte %u is not zero", place); break;
+    case HPSDR_RESERVED: snprintf(text, HPSDR_TEXT, "%s", hpsdr_cause_sentence(place)); break;
+    default: snprintf(text, HPSDR_TEXT, "%s", hpsdr_answer_sentence(hpsdr_answer_of(got)));
+    }
+    return text;
+}
+
+/* The same of what a transfer returned, with the refused frame's index, counted from 0: "sync byte 1 of frame 3 is not
+ * 7F", "padding byte 509 of frame 3 is not zero". */
+static inline const char *hpsdr_transfer_text(uint32_t got, char text[HPSDR_TEXT]) {
+    const unsigned place = (unsigned)hpsdr_place_in(got), frame = (unsigned)hpsdr_found_in(got);
+    switch (hpsdr_answer_of(got)) {
+    case HPSDR_NO_SYNC: snprintf(text, HPSDR_TEXT, "sync byte %u of frame %u is not 7F", place, frame); break;
+    case HPSDR_PADDING: snprintf(text, HPSDR_TEXT, "padding byte %u of frame %u is not zero", place, frame); break;
+    default: hpsdr_refusal_text(got, text);
+    }
+    return text;
 }
 
 #define HPSDR_FRAME 512         /* bytes of a frame: sync (7F 7F 7F), C0 to C4, 504 of samples and padding */
@@ -164,7 +216,9 @@ static inline int32_t hpsdr_q(const struct hpsdr_samples *samples, size_t n, siz
 
 /* Reads a frame: I and Q to the start of `iq` and the microphone values to the start of `mic`, in the order above, and
  * its word into the record where it stands. Found: the word's address, 0 to 31, of which 0 to 4 are listed; another
- * one sets `dot`, `dash` and `ptt` only. Refusals: BAD_STATE, BAD_COUNT, LENGTH, SHORT_BUFFER, NO_SYNC, PADDING.
+ * one sets `dot`, `dash` and `ptt` only. Refusals: BAD_STATE, BAD_COUNT, LENGTH, SHORT_BUFFER, NO_SYNC, PADDING. Place:
+ * for NO_SYNC the first of the bytes 0 to 2 that is not 7F, for PADDING the first padding byte that is not 0, both as
+ * bytes of the frame, counted from 0: frame[place]. The padding of a row begins at byte 512 - padding.
  *
  * No frame carries the number of its receivers: the caller has to know it. A wrong number is not detected where the
  * frame has no padding for that number (1 and 2), or has zeros there. The frame is then accepted, and its samples are
@@ -203,8 +257,9 @@ static inline int32_t hpsdr_transfer_q(const struct hpsdr_transfer *transfer, si
  * or PADDING, and there the call stops.
  *
  * Found, accepted or refused: the number of frames read, 0 to 8; which words they carried is not told. The record is
- * the one after these frames, and past their values `iq` and `mic` are as before. The frame behind a refused one is at
- * input + HPSDR_FRAME * (found + 1). */
+ * the one after these frames, and past their values `iq` and `mic` are as before. Where a frame is refused, what is
+ * found is its index, counted from 0, and the place is the one that `hpsdr_radio_read` gives for it: the byte is
+ * input[HPSDR_FRAME * found + place], and the frame behind is at input + HPSDR_FRAME * (found + 1). */
 uint32_t hpsdr_radio_read_transfer(const uint8_t *input, size_t input_length, size_t receivers,
                                    int32_t *iq, size_t iq_length, int16_t *mic, size_t mic_length,
                                    struct hpsdr_status *status, size_t status_cells);
@@ -289,7 +344,8 @@ static inline void hpsdr_host_init(struct hpsdr_host *host) { hpsdr_host_fresh(h
 /* Reads a frame: its 252 numbers to the start of `audio`, and its word into the record where it stands. L, R, I and Q
  * of slot t, 0 to 62, are audio[4 * t] and the three after it, and each may be any int16_t. Found: the word's address,
  * 0 to 127, of which 0 to 10 are listed; another one sets `mox` only. Refusals: BAD_STATE, LENGTH, SHORT_BUFFER,
- * NO_SYNC, RESERVED. */
+ * NO_SYNC, RESERVED. Place: for NO_SYNC the first of the frame's bytes 0 to 2 that is not 7F, for RESERVED an
+ * `enum hpsdr_cause`. */
 uint32_t hpsdr_host_read(const uint8_t *frame, size_t frame_length, int16_t *audio, size_t audio_length,
                          struct hpsdr_host *host, size_t host_cells);
 

@@ -110,21 +110,30 @@ static void compare(const char *what, const struct area *area) {
         }
 }
 
-/* Calls, and compares with the answer (and what is found) and with the expected desk. */
-static void run(const char *what, uint32_t (*call)(void), uint32_t answer, uint32_t found) {
+/* Calls, and compares with the answer, what is found and the place, all 32 bits, and with the expected desk. */
+static void run_at(const char *what, uint32_t (*call)(void), uint32_t answer, uint32_t found, size_t place) {
     uint32_t got = call();
-    if (got != (answer | found << 8))
-        report("%s: got answer %u and found %u, expected %u and %u", what, (unsigned)hpsdr_answer_of(got),
-               (unsigned)hpsdr_found_in(got), (unsigned)answer, (unsigned)found);
+    if (got != (answer | found << 8 | (uint32_t)place << 16))
+        report("%s: got answer %u, found %u, place %u, expected %u, %u, %zu", what, (unsigned)hpsdr_answer_of(got),
+               (unsigned)hpsdr_found_in(got), (unsigned)hpsdr_place_in(got), (unsigned)answer, (unsigned)found, place);
     for (size_t at = 0; at < sizeof areas / sizeof *areas; at++)
         compare(what, &areas[at]);
 }
 
+/* The answers that have no place. */
+static void run(const char *what, uint32_t (*call)(void), uint32_t answer, uint32_t found) {
+    run_at(what, call, answer, found, 0);
+}
+
 static void expect_unchanged(void) { memcpy(&expected, &lent, sizeof lent); }
 
-static void refuse(const char *what, uint32_t (*call)(void), enum hpsdr_answer refusal) {
+static void refuse_at(const char *what, uint32_t (*call)(void), enum hpsdr_answer refusal, size_t place) {
     expect_unchanged();
-    run(what, call, refusal, 0);
+    run_at(what, call, refusal, 0, place);
+}
+
+static void refuse(const char *what, uint32_t (*call)(void), enum hpsdr_answer refusal) {
+    refuse_at(what, call, refusal, 0);
 }
 
 /* A desk of noise, but for fresh records and a frame of sync and zeros. */
@@ -460,26 +469,40 @@ static void test_radio_read_refusals(void) {
     pass.iq = 149;
     refuse("radio read to 149 samples", radio_read, HPSDR_SHORT_BUFFER);
     pass.iq = 150;
-    refuse("radio read without sync", radio_read, HPSDR_NO_SYNC);
+    refuse_at("radio read without sync", radio_read, HPSDR_NO_SYNC, 2);
     lent.frame[1][2] = 0x7F;
-    refuse("radio read with padding", radio_read, HPSDR_PADDING);
+    refuse_at("radio read with padding", radio_read, HPSDR_PADDING, 511);
 }
 
-static void test_sync_and_padding(void) {
-    for (size_t receivers = 1; receivers <= HPSDR_MOST_RECEIVERS; receivers++) {
-        set_out();
-        pass.receivers = receivers;
-        for (size_t place = HPSDR_FRAME - rows[receivers - 1].padding; place < HPSDR_FRAME; place++) {
-            lent.frame[1][place] = 0x80;
-            refuse("radio read with a byte of padding", radio_read, HPSDR_PADDING);
-            lent.frame[1][place] = 0;
+/* Each byte of padding alone, and with each of those behind it: the first is named. The byte before them is not 0. */
+static void test_padding(size_t receivers) {
+    const size_t padding = HPSDR_FRAME - rows[receivers - 1].padding;
+    set_out();
+    pass.receivers = receivers;
+    lent.frame[1][padding - 1] = 1;
+    for (size_t place = padding; place < HPSDR_FRAME; place++) {
+        lent.frame[1][place] = 0x80;
+        refuse_at("radio read with a byte of padding", radio_read, HPSDR_PADDING, place);
+        for (size_t behind = place + 1; behind < HPSDR_FRAME; behind++) {
+            lent.frame[1][behind] = 1;
+            refuse_at("radio read with two bytes of padding", radio_read, HPSDR_PADDING, place);
+            lent.frame[1][behind] = 0;
         }
-        for (size_t place = 0; place < 3; place++) {
-            lent.frame[1][place] = 0xFF;
-            refuse("radio read with a byte of no sync", radio_read, HPSDR_NO_SYNC);
-            refuse("host read with a byte of no sync", host_read, HPSDR_NO_SYNC);
-            lent.frame[1][place] = 0x7F;
-        }
+        lent.frame[1][place] = 0;
+    }
+}
+
+/* Every choice of bytes that are not sync, of which bit k of `wrong` is byte k, with padding that is not 0. */
+static void test_sync(size_t receivers) {
+    static const size_t first_wrong[8] = {3, 0, 1, 0, 2, 0, 1, 0};
+    set_out();
+    pass.receivers = receivers;
+    memset(lent.frame[1] + HPSDR_FRAME - rows[receivers - 1].padding, 0xFF, rows[receivers - 1].padding);
+    for (unsigned wrong = 1; wrong < 8; wrong++) {
+        for (size_t place = 0; place < 3; place++)
+            lent.frame[1][place] = wrong >> place & 1 ? 0xFF : 0x7F;
+        refuse_at("radio read with bytes of no sync", radio_read, HPSDR_NO_SYNC, first_wrong[wrong]);
+        refuse_at("host read with bytes of no sync", host_read, HPSDR_NO_SYNC, first_wrong[wrong]);
     }
 }
 
@@ -555,22 +578,28 @@ static void test_transfers(size_t receivers, size_t more) {
     }
 }
 
-/* Each of eight frames is damaged in turn, at one place of it. */
-static void test_stops(size_t receivers, size_t place, enum hpsdr_answer refusal) {
+/* Each of eight frames is damaged in turn, at one place of it: alone, then with the last byte before an end, and with
+ * the whole frame behind. */
+static void test_stops(size_t receivers, size_t place, size_t end, enum hpsdr_answer refusal) {
     for (size_t frames = 0; frames < HPSDR_MOST_FRAMES; frames++) {
         set_out_transfer(receivers, HPSDR_MOST_FRAMES);
-        lent.input[1][HPSDR_FRAME * frames + place] ^= 0x80;
+        uint8_t *frame = lent.input[1] + HPSDR_FRAME * frames;
+        frame[place] ^= 0x80;
         expect_frames(frames);
-        run("transfer with a damaged frame", radio_read_transfer, refusal, (uint32_t)frames);
+        run_at("transfer with a damaged frame", radio_read_transfer, refusal, (uint32_t)frames, place);
+        frame[end - 1] = 0xFF;
+        memset(frame + HPSDR_FRAME, 0xFF, HPSDR_FRAME);
+        expect_frames(frames);
+        run_at("transfer with two damaged frames", radio_read_transfer, refusal, (uint32_t)frames, place);
     }
 }
 
 static void test_all_stops(void) {
     for (size_t receivers = 1; receivers <= HPSDR_MOST_RECEIVERS; receivers++) {
         for (size_t place = 0; place < 3; place++)
-            test_stops(receivers, place, HPSDR_NO_SYNC);
+            test_stops(receivers, place, 3, HPSDR_NO_SYNC);
         for (size_t place = HPSDR_FRAME - rows[receivers - 1].padding; place < HPSDR_FRAME; place++)
-            test_stops(receivers, place, HPSDR_PADDING);
+            test_stops(receivers, place, HPSDR_FRAME, HPSDR_PADDING);
     }
 }
 
@@ -589,7 +618,7 @@ static void test_transfer_lengths(void) {
 static void test_transfer_refusals(void) {
     set_out_transfer(3, 3);
     lent.input[1][HPSDR_FRAME + 511] = 1;
-    lent.input[1][2 * HPSDR_FRAME] = 0x7E;
+    lent.input[1][2 * HPSDR_FRAME + 1] = 0x7E;
     lent.status[1].pll = 2;
     pass.receivers = 9;
     pass.input--;
@@ -612,10 +641,10 @@ static void test_transfer_refusals(void) {
     refuse("transfer to 449 samples", radio_read_transfer, HPSDR_SHORT_BUFFER);
     pass.iq = 450;
     expect_frames(1);
-    run("transfer with padding, then without sync", radio_read_transfer, HPSDR_PADDING, 1);
+    run_at("transfer with padding, then without sync", radio_read_transfer, HPSDR_PADDING, 1, 511);
     lent.input[1][HPSDR_FRAME + 511] = 0;
     expect_frames(2);
-    run("transfer without sync", radio_read_transfer, HPSDR_NO_SYNC, 2);
+    run_at("transfer without sync", radio_read_transfer, HPSDR_NO_SYNC, 2, 1);
 }
 
 /* ---- host frames ---- */
@@ -765,10 +794,17 @@ static void test_host_read_refusals(void) {
     static const struct {
         const char *what;
         uint8_t control[5];
-    } reserved[] = {{"host read of relay 3", {1, 0, 0, 0, 0x17}},
-                    {"host read of source 3", {0, 0x0C, 0, 0, 0}},
-                    {"host read of word 9's C4 bit 7", {9 << 1, 0, 0, 0, 0x80}},
-                    {"host read of word 10's C1 bit 7", {10 << 1, 0x80, 0, 0, 0}}};
+        enum hpsdr_cause cause;
+    } reserved[] = {{"host read of relay 3", {1, 0, 0, 0, 0x17}, HPSDR_CAUSE_RELAY},
+                    {"host read of source 3", {0, 0x0C, 0, 0, 0}, HPSDR_CAUSE_SOURCE10},
+                    {"host read of source 3 and relay 3", {0, 0x0C, 0, 0, 0x03}, HPSDR_CAUSE_SOURCE10},
+                    {"host read of all bits in word 0", {1, 0xFF, 0xFF, 0xFF, 0xFF}, HPSDR_CAUSE_SOURCE10},
+                    {"host read of all bits but the source's low", {1, 0xFB, 0xFF, 0xFF, 0xFF}, HPSDR_CAUSE_RELAY},
+                    {"host read of all bits but the source's high", {1, 0xF7, 0xFF, 0xFF, 0xFF}, HPSDR_CAUSE_RELAY},
+                    {"host read of word 9's C4 bit 7", {9 << 1, 0, 0, 0, 0x80}, HPSDR_CAUSE_WORD9_C4_BIT7},
+                    {"host read of all bits in word 9", {0x13, 0xFF, 0xFF, 0xFF, 0xFF}, HPSDR_CAUSE_WORD9_C4_BIT7},
+                    {"host read of word 10's C1 bit 7", {10 << 1, 0x80, 0, 0, 0}, HPSDR_CAUSE_WORD10_C1_BIT7},
+                    {"host read of all bits in word 10", {0x15, 0xFF, 0xFF, 0xFF, 0xFF}, HPSDR_CAUSE_WORD10_C1_BIT7}};
     set_out();
     set_control(lent.frame[1], reserved[0].control);
     lent.frame[1][0] = 0;
@@ -783,11 +819,11 @@ static void test_host_read_refusals(void) {
     pass.frame = 512;
     refuse("host read to 251 numbers", host_read, HPSDR_SHORT_BUFFER);
     pass.audio = HPSDR_AUDIO;
-    refuse("host read without sync", host_read, HPSDR_NO_SYNC);
+    refuse_at("host read without sync", host_read, HPSDR_NO_SYNC, 0);
     lent.frame[1][0] = 0x7F;
     for (size_t at = 0; at < sizeof reserved / sizeof *reserved; at++) {
         set_control(lent.frame[1], reserved[at].control);
-        refuse(reserved[at].what, host_read, HPSDR_RESERVED);
+        refuse_at(reserved[at].what, host_read, HPSDR_RESERVED, reserved[at].cause);
     }
 }
 
@@ -1010,9 +1046,10 @@ int main(void) {
     test_status_bits();
     test_unlisted_status_words();
     test_radio_read_refusals();
-    test_sync_and_padding();
     test_radio_write_refusals();
     for (size_t receivers = 1; receivers <= HPSDR_MOST_RECEIVERS; receivers++) {
+        test_padding(receivers);
+        test_sync(receivers);
         test_transfers(receivers, 0);
         test_transfers(receivers, 3);
     }

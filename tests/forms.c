@@ -1,7 +1,7 @@
 /* Calls each short form of the header and the full form beside it on the same input, accepted and refused, and compares
  * what they return and all that they were lent with each other and with what is due. Then the places and ranges of
- * samples, the limits of each field of a record, and the words for an answer. Prints a line for each fault, and exits 1
- * if there is one. It is C and C++. */
+ * samples, the limits of each field of a record, the parts of what is returned, and the words for them. Prints a line
+ * for each fault, and exits 1 if there is one. It is C and C++. */
 #include "faults.h"
 
 #include <hpsdr.h>
@@ -90,19 +90,29 @@ static const struct form sound = {"stream_is_sound", short_sound, full_sound};
 static const struct form feed = {"feed", short_feed, full_feed};
 
 /* Calls both forms on what is given. A refusal that finds nothing leaves all as it was. */
-static void both(const struct form *form, enum hpsdr_answer answer, uint32_t found, size_t number) {
+static void both_at(const struct form *form, enum hpsdr_answer answer, uint32_t found, uint32_t place, size_t number) {
     memcpy(&by_short, &given, sizeof given);
     memcpy(&by_full, &given, sizeof given);
     const uint32_t got = form->in_short(&by_short);
     check(hpsdr_answer_of(got) == answer, form->name, "the answer is another", number);
     check(hpsdr_found_in(got) == found, form->name, "what is found is another", number);
+    check(hpsdr_place_in(got) == place, form->name, "the place is another", number);
     check(form->in_full(&by_full) == got, form->name, "the full form returns another", number);
     check(memcmp(&by_short, &by_full, sizeof given) == 0, form->name, "the full form leaves another", number);
     if (answer != HPSDR_ACCEPTED && found == 0)
         check(memcmp(&by_short, &given, sizeof given) == 0, form->name, "a refusal leaves a change", number);
 }
 
+/* The answers that have no place. */
+static void both(const struct form *form, enum hpsdr_answer answer, uint32_t found, size_t number) {
+    both_at(form, answer, found, 0, number);
+}
+
 static void refuse(const struct form *form, enum hpsdr_answer answer, size_t number) { both(form, answer, 0, number); }
+
+static void refuse_at(const struct form *form, enum hpsdr_answer answer, uint32_t place, size_t number) {
+    both_at(form, answer, 0, place, number);
+}
 
 /* Noise, but for fresh records, I and Q that fit, and a frame of sync and zeros; one receiver. */
 static void set_out(void) {
@@ -183,15 +193,15 @@ static void test_read(void) {
                   "the keys are others", n);
         }
         given.frame[511] = 1;
-        both(&radio_read, n < 3 ? HPSDR_ACCEPTED : HPSDR_PADDING, n < 3 ? 31 : 0, n);
+        both_at(&radio_read, n < 3 ? HPSDR_ACCEPTED : HPSDR_PADDING, n < 3 ? 31 : 0, n < 3 ? 0 : 511, n);
         given.frame[2] = 0x7E;
-        refuse(&radio_read, HPSDR_NO_SYNC, n);
+        refuse_at(&radio_read, HPSDR_NO_SYNC, 2, n);
         given.status.pll = 2;
         refuse(&radio_read, HPSDR_BAD_STATE, n);
     }
 }
 
-/* Eight frames, each with word 1 and an AIN5 of its own; then one of them without sync. */
+/* Eight frames, each with word 1 and an AIN5 of its own; then one of them without a byte of sync. */
 static void test_transfer(void) {
     set_out();
     for (size_t k = 0; k < 8; k++) {
@@ -205,10 +215,11 @@ static void test_transfer(void) {
         check(by_short.status.ain5 == frames, "read_transfer", "the record is another", frames);
     }
     for (uint32_t frames = 0; frames < 8; frames++) {
-        given.input[512 * frames] = 0x7E;
-        both(&read_transfer, HPSDR_NO_SYNC, frames, frames);
+        const uint32_t place = frames % 3;
+        given.input[512 * frames + place] = 0x7E;
+        both_at(&read_transfer, HPSDR_NO_SYNC, frames, place, frames);
         check(by_short.status.ain5 == frames, "read_transfer", "the record is not that of the frames before", frames);
-        given.input[512 * frames] = 0x7F;
+        given.input[512 * frames + place] = 0x7F;
     }
     static const size_t wrong[] = {0, 511, 513, 4095, 4097, 4608};
     for (size_t at = 0; at < sizeof wrong / sizeof *wrong; at++) {
@@ -265,9 +276,9 @@ static void test_hear_and_build(void) {
     both(&hear, HPSDR_ACCEPTED, 127, 127);
     given.frame[3] = 10 << 1;
     given.frame[4] = 0x80;
-    refuse(&hear, HPSDR_RESERVED, 10);
-    given.frame[0] = 0;
-    refuse(&hear, HPSDR_NO_SYNC, 0);
+    refuse_at(&hear, HPSDR_RESERVED, HPSDR_CAUSE_WORD10_C1_BIT7, 10);
+    given.frame[1] = 0;
+    refuse_at(&hear, HPSDR_NO_SYNC, 1, 10);
     given.host.mox = 2;
     refuse(&hear, HPSDR_BAD_STATE, 0);
 }
@@ -395,15 +406,16 @@ static void test_sample_range(size_t n) {
 }
 
 /* A wrong number of receivers: the frame of three has zeros in its last four bytes, where eight have their padding, and
- * samples where four to seven have some of theirs. */
+ * samples where four to seven have some of theirs: from the first byte of it on. */
 static void test_wrong_count(void) {
     static const enum hpsdr_answer due[] = {HPSDR_ACCEPTED, HPSDR_ACCEPTED, HPSDR_ACCEPTED, HPSDR_PADDING,
                                             HPSDR_PADDING,  HPSDR_PADDING,  HPSDR_PADDING,  HPSDR_ACCEPTED};
+    static const uint32_t places[] = {0, 0, 0, 512 - 10, 512 - 24, 512 - 10, 512 - 20, 0};
     set_out();
     memset(given.frame + 8, 0x11, 500);
     for (size_t n = 1; n <= 8; n++) {
         given.receivers = n;
-        both(&radio_read, due[n - 1], 0, n);
+        both_at(&radio_read, due[n - 1], 0, places[n - 1], n);
     }
 }
 
@@ -538,7 +550,24 @@ static void test_least_receivers_and_turns(void) {
     }
 }
 
-/* ---- the words for an answer ---- */
+/* ---- what is returned, and the words for it ---- */
+
+static void test_parts(void) {
+    static const struct {
+        uint32_t got;
+        enum hpsdr_answer answer;
+        uint32_t found, place;
+    } parts[] = {{0x00000000, HPSDR_ACCEPTED, 0, 0},   {0x00007F00, HPSDR_ACCEPTED, 127, 0},
+                 {0x0000FF00, HPSDR_ACCEPTED, 255, 0}, {0x00000009, HPSDR_RANGE, 0, 0},
+                 {0x00000006, HPSDR_NO_SYNC, 0, 0},    {0x00020706, HPSDR_NO_SYNC, 7, 2},
+                 {0x01E80007, HPSDR_PADDING, 0, 488},  {0x01FD0307, HPSDR_PADDING, 3, 509},
+                 {0x00040008, HPSDR_RESERVED, 0, 4},   {0xFFFF0008, HPSDR_RESERVED, 0, 65535}};
+    for (size_t at = 0; at < sizeof parts / sizeof *parts; at++) {
+        check(hpsdr_answer_of(parts[at].got) == parts[at].answer, "answer_of", "another answer", at);
+        check(hpsdr_found_in(parts[at].got) == parts[at].found, "found_in", "another number", at);
+        check(hpsdr_place_in(parts[at].got) == parts[at].place, "place_in", "another place", at);
+    }
+}
 
 static void test_words(void) {
     static const struct {
@@ -566,6 +595,86 @@ static void test_words(void) {
     }
 }
 
+static void test_causes(void) {
+    static const struct {
+        uint32_t cause;
+        const char *sentence;
+    } causes[] = {{HPSDR_CAUSE_SOURCE10, "the 10 MHz source has the unassigned code 3"},
+                  {HPSDR_CAUSE_RELAY, "the transmit relay has the unassigned code 3"},
+                  {HPSDR_CAUSE_WORD9_C4_BIT7, "word 9's C4 bit 7 is set, which is unassigned"},
+                  {HPSDR_CAUSE_WORD10_C1_BIT7, "word 10's C1 bit 7 is set, which is unassigned"},
+                  {0, "this number is no cause"},
+                  {5, "this number is no cause"},
+                  {UINT32_MAX, "this number is no cause"}};
+    for (size_t at = 0; at < sizeof causes / sizeof *causes; at++)
+        check(strcmp(hpsdr_cause_sentence(causes[at].cause), causes[at].sentence) == 0, "cause_sentence",
+              "another sentence", at);
+}
+
+static void check_text(const char *name, const char *given_back, const char *text, const char *due, size_t number) {
+    check(given_back == text, name, "it does not give back what it was lent", number);
+    check(strcmp(text, due) == 0, name, text, number);
+}
+
+/* An answer with a place, of a call and of a transfer. */
+static void test_texts_with_a_place(void) {
+    static const struct {
+        uint32_t got;
+        const char *of_a_call, *of_a_transfer;
+    } texts[] = {
+        {0x00000006, "sync byte 0 is not 7F", "sync byte 0 of frame 0 is not 7F"},
+        {0x00010306, "sync byte 1 is not 7F", "sync byte 1 of frame 3 is not 7F"},
+        {0x00020706, "sync byte 2 is not 7F", "sync byte 2 of frame 7 is not 7F"},
+        {0x01FD0307, "padding byte 509 is not zero", "padding byte 509 of frame 3 is not zero"},
+        {0x01E80007, "padding byte 488 is not zero", "padding byte 488 of frame 0 is not zero"},
+        {0x01FF0707, "padding byte 511 is not zero", "padding byte 511 of frame 7 is not zero"},
+        {0xFFFFFF07, "padding byte 65535 is not zero", "padding byte 65535 of frame 255 is not zero"},
+        {0x00010008, "the 10 MHz source has the unassigned code 3", "the 10 MHz source has the unassigned code 3"},
+        {0x00020008, "the transmit relay has the unassigned code 3", "the transmit relay has the unassigned code 3"},
+        {0x00030008, "word 9's C4 bit 7 is set, which is unassigned", "word 9's C4 bit 7 is set, which is unassigned"},
+        {0x00040008, "word 10's C1 bit 7 is set, which is unassigned",
+         "word 10's C1 bit 7 is set, which is unassigned"},
+        {0x00000008, "this number is no cause", "this number is no cause"}};
+    char text[HPSDR_TEXT];
+    for (size_t at = 0; at < sizeof texts / sizeof *texts; at++) {
+        check_text("refusal_text", hpsdr_refusal_text(texts[at].got, text), text, texts[at].of_a_call, at);
+        check_text("transfer_text", hpsdr_transfer_text(texts[at].got, text), text, texts[at].of_a_transfer, at);
+    }
+}
+
+/* The others are the answer's sentence, which test_words compares, whatever was found. */
+static void test_texts_without_a_place(void) {
+    static const uint32_t answers[] = {0, 1, 2, 3, 4, 5, 9, 10};
+    char text[HPSDR_TEXT];
+    for (size_t at = 0; at < sizeof answers / sizeof *answers; at++)
+        for (uint32_t found = 0; found < 256; found += 51) {
+            const uint32_t got = answers[at] | found << 8;
+            const char *due = hpsdr_answer_sentence(answers[at]);
+            check_text("refusal_text", hpsdr_refusal_text(got, text), text, due, at);
+            check_text("transfer_text", hpsdr_transfer_text(got, text), text, due, at);
+        }
+}
+
+/* From the call to the text. */
+static void test_read_and_told(void) {
+    char text[HPSDR_TEXT];
+    set_out();
+    given.receivers = 3;
+    given.frame[509] = 1;
+    hpsdr_refusal_text(short_read(&given), text);
+    check(strcmp(text, "padding byte 509 is not zero") == 0, "read", text, 509);
+    given.length = 4096;
+    for (size_t k = 0; k < 8; k++)
+        memcpy(given.input + 512 * k, given.frame, 512);
+    for (size_t k = 0; k < 3; k++)
+        given.input[512 * k + 509] = 0;
+    hpsdr_transfer_text(short_transfer(&given), text);
+    check(strcmp(text, "padding byte 509 of frame 3 is not zero") == 0, "read_transfer", text, 509);
+    given.frame[7] = 0x17;
+    hpsdr_refusal_text(short_hear(&given), text);
+    check(strcmp(text, "the transmit relay has the unassigned code 3") == 0, "hear", text, 2);
+}
+
 int main(void) {
     test_row();
     test_inits();
@@ -583,6 +692,11 @@ int main(void) {
     test_status_fields();
     test_host_fields();
     test_least_receivers_and_turns();
+    test_parts();
     test_words();
+    test_causes();
+    test_texts_with_a_place();
+    test_texts_without_a_place();
+    test_read_and_told();
     return faults ? 1 : 0;
 }

@@ -29,6 +29,9 @@ static_assert(HPSDR_PIECE_MOST == 4096 && HPSDR_OUTPUT_LEAST == 4096, "bytes of 
 static_assert(HPSDR_ACCEPTED == 0 && HPSDR_BAD_STATE == 1 && HPSDR_BAD_COUNT == 2 && HPSDR_LENGTH == 3 &&
               HPSDR_SHORT_BUFFER == 4 && HPSDR_STREAM_FULL == 5 && HPSDR_NO_SYNC == 6 && HPSDR_PADDING == 7 &&
               HPSDR_RESERVED == 8 && HPSDR_RANGE == 9, "answers");
+static_assert(HPSDR_CAUSE_SOURCE10 == 1 && HPSDR_CAUSE_RELAY == 2 && HPSDR_CAUSE_WORD9_C4_BIT7 == 3 &&
+              HPSDR_CAUSE_WORD10_C1_BIT7 == 4, "causes");
+static_assert(HPSDR_TEXT == 128, "room for a text");
 static_assert(HPSDR_PTT_TO_RING == 0 && HPSDR_PTT_TO_TIP == 1, "codes of the jack");
 
 /* The samples of a frame, of which a slot has 6 bytes for a receiver and 2 for the microphone: as many slots as fit
@@ -47,8 +50,14 @@ static_assert(sizeof(((struct hpsdr_stream *)0)->counts) == 4 * sizeof(uint64_t)
 static_assert(sizeof(((struct hpsdr_stream *)0)->held) == 514, "held bytes of a stream");
 
 /* Declared once more, each with its type. */
+static inline enum hpsdr_answer hpsdr_answer_of(uint32_t got);
+static inline uint32_t hpsdr_found_in(uint32_t got);
+static inline uint32_t hpsdr_place_in(uint32_t got);
 static inline const char *hpsdr_answer_name(uint32_t answer);
 static inline const char *hpsdr_answer_sentence(uint32_t answer);
+static inline const char *hpsdr_cause_sentence(uint32_t cause);
+static inline const char *hpsdr_refusal_text(uint32_t got, char text[128]);
+static inline const char *hpsdr_transfer_text(uint32_t got, char text[128]);
 static inline uint32_t hpsdr_row_of(size_t receivers, struct hpsdr_row *row);
 static inline void hpsdr_status_init(struct hpsdr_status *status);
 static inline int32_t hpsdr_i(const struct hpsdr_samples *samples, size_t n, size_t r, size_t t);

@@ -10,6 +10,7 @@ typedef unsigned char uint8_t;
 typedef unsigned short uint16_t;
 typedef short int16_t;
 typedef int int32_t;
+typedef unsigned int uint32_t;
 typedef unsigned long size_t;
 #define offsetof(type, member) __builtin_offsetof(type, member)
 
@@ -35,9 +36,9 @@ struct status {
     struct versions versions;
 };
 
-// A slice is its pointer and its count.
-uint8_t radio_update(const uint8_t *frame, size_t frame_len, size_t receivers, int32_t *iq, size_t iq_len,
-                     int16_t *mic, size_t mic_len, struct status *status);
+// A slice is its pointer and its count. What comes back is the answer in bits 7 to 0, and the place in bits 31 to 16.
+uint32_t radio_update(const uint8_t *frame, size_t frame_len, size_t receivers, int32_t *iq, size_t iq_len,
+                      int16_t *mic, size_t mic_len, struct status *status);
 
 enum { ROOM = 300 };
 
@@ -93,11 +94,17 @@ static bool same_record(void)
     return memcmp(&status, &before, sizeof status) == 0;
 }
 
-// Refused: the number, and the record and both slices as they were.
-static void refused(const char *what, uint8_t number, size_t frame_len, size_t receivers, size_t iq_len, size_t mic_len)
+// Refused: the number and the place, and the record and both slices as they were.
+static void refused_at(const char *what, uint32_t number, size_t place, size_t frame_len, size_t receivers, size_t iq_len, size_t mic_len)
 {
-    uint8_t answer = radio_update(frame, frame_len, receivers, iq, iq_len, mic, mic_len, &status);
-    check(what, answer == number && same_record() && same_slices(0, 0));
+    uint32_t got = radio_update(frame, frame_len, receivers, iq, iq_len, mic, mic_len, &status);
+    check(what, got == (number | (uint32_t)place << 16) && same_record() && same_slices(0, 0));
+}
+
+// A refusal that has no place: its number alone.
+static void refused(const char *what, uint32_t number, size_t frame_len, size_t receivers, size_t iq_len, size_t mic_len)
+{
+    refused_at(what, number, 0, frame_len, receivers, iq_len, mic_len);
 }
 
 // The layouts of one to eight receivers: slots, and padding.
@@ -146,9 +153,13 @@ int main(void)
         fresh(0x0c, 0, 0, 0, 0);
         refused("one I/Q value too few is SHORT_BUFFER", 4, 512, n, values - 1, slots[n]);
         refused("one microphone value too few is SHORT_BUFFER", 4, 512, n, values, slots[n] - 1);
-        if (padding[n] != 0) {
-            frame[512 - padding[n]] = 1;
-            refused("a padding byte is PADDING", 7, 512, n, ROOM, ROOM);
+        // each padding byte alone, and with the last one: the first of them is named
+        for (size_t at = 512 - padding[n]; at < 512; at++) {
+            frame[at] = 0x80;
+            refused_at("a padding byte is PADDING", 7, at, 512, n, ROOM, ROOM);
+            frame[511] = 0x80;
+            refused_at("of two padding bytes the first is named", 7, at, 512, n, ROOM, ROOM);
+            frame[at] = frame[511] = 0;
         }
     }
 
@@ -160,9 +171,18 @@ int main(void)
     refused("BAD_COUNT comes before LENGTH", 2, 511, 9, ROOM, ROOM);
     refused("LENGTH comes before SHORT_BUFFER", 3, 511, 1, 0, 0);
     frame[2] = 0x7e;
-    refused("two bytes of sync are NO_SYNC", 6, 512, 1, ROOM, ROOM);
+    refused("SHORT_BUFFER comes before NO_SYNC", 4, 512, 1, 0, 0);
+    refused_at("two bytes of sync are NO_SYNC", 6, 2, 512, 1, ROOM, ROOM);
+    frame[1] = 0x7e;
+    refused_at("one byte of sync is NO_SYNC, and the first of two is named", 6, 1, 512, 1, ROOM, ROOM);
+    frame[0] = 0x7e;
+    refused_at("no byte of sync is NO_SYNC, and the first of three is named", 6, 0, 512, 1, ROOM, ROOM);
+    frame[1] = frame[2] = 0x7f;
+    refused_at("the first byte alone is NO_SYNC", 6, 0, 512, 1, ROOM, ROOM);
+    frame[0] = 0x7f;
+    frame[1] = 0;
     frame[511] = 1;
-    refused("NO_SYNC comes before PADDING", 6, 512, 3, ROOM, ROOM);
+    refused_at("NO_SYNC comes before PADDING", 6, 1, 512, 3, ROOM, ROOM);
 
     printf("update from C: %d passed, %d failed\n", passed, failed);
     return failed != 0;
