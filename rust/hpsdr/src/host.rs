@@ -197,10 +197,11 @@ impl Host {
     /// Reads a frame: its 252 numbers to the start of `audio`, its word into the record. Gives the word's address,
     /// 0 to 127, of which 0 to 10 are listed.
     ///
-    /// Refusals: `Length`, `ShortBuffer`, `NoSync`, `Reserved`.
+    /// Refusals: `Length`, `ShortBuffer`, `NoSync`, `Reserved`. The last two say which byte of the frame it was, and which
+    /// code or bit.
     ///
     /// ```
-    /// use hpsdr::{Host, Refusal, Relay, AUDIO, FRAME};
+    /// use hpsdr::{Cause, Host, Refusal, Relay, AUDIO, FRAME};
     ///
     /// let (mut host, mut audio, mut frame) = (Host::fresh(), [0; AUDIO], [0; FRAME]);
     /// // Sync, word 2 with 7,100,000 Hz; L of the first slot.
@@ -222,7 +223,8 @@ impl Host {
     ///
     /// // There is no fourth relay.
     /// frame[7] = 0x17;
-    /// assert_eq!(host.read(&frame, &mut audio), Err(Refusal::Reserved));
+    /// let refusal = host.read(&frame, &mut audio).unwrap_err();
+    /// assert_eq!(refusal, Refusal::Reserved { cause: Cause::Relay });
     /// assert_eq!(host.receivers, 3);
     /// ```
     pub fn read(&mut self, frame: &[u8], audio: &mut [i16]) -> Result<u8, Refusal> {

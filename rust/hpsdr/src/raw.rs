@@ -1,7 +1,26 @@
 //! The calls of the header `hpsdr.h`, as they are. The wrappers of this crate are built on them.
 //!
-//! A record is lent as a pointer to its cells and their number. What a call returns is its answer in bits 7 to 0
-//! (0, or a refusal's number) and, where the header says so, what it found in the bits above.
+//! A record is lent as a pointer to its cells and their number. What a call returns has three parts: its answer in
+//! bits 7 to 0 (0, or a refusal's number); what it found in bits 15 to 8, where this is said below; the place in bits 31
+//! to 16, beside the refusals 6, 7 and 8. For 6 and 7 the place is a byte of the frame, counted from 0: the first of the
+//! bytes 0 to 2 that is not 7F, and the first padding byte that is not 0. For 8 it is the number of a
+//! [`Cause`](crate::Cause). Beside every other answer it is 0. On a refusal a call found 0, but for the frames that
+//! [`hpsdr_radio_read_transfer`] read before the refused one.
+//!
+//! ```
+//! use hpsdr::raw;
+//!
+//! // A frame of three receivers, of zeros but for sync and padding byte 509, read into 150 and 25 values.
+//! let (mut frame, mut iq, mut mic, mut status) = ([0; 512], [0; 150], [0; 25], [0; raw::STATUS_CELLS]);
+//! frame[..3].fill(0x7F);
+//! frame[509] = 1;
+//! // SAFETY: each pointer is to an array of so many elements, and none overlaps another.
+//! let got = unsafe {
+//!     let (iq, mic, status) = (iq.as_mut_ptr(), mic.as_mut_ptr(), status.as_mut_ptr());
+//!     raw::hpsdr_radio_read(frame.as_ptr(), 512, 3, iq, 150, mic, 25, status, raw::STATUS_CELLS)
+//! };
+//! assert_eq!((got & 0xFF, got >> 8 & 0xFF, got >> 16), (7, 0, 509));
+//! ```
 //!
 //! # Safety
 //!
@@ -42,7 +61,7 @@ extern "C" {
     /// The status record that all-zero words give.
     pub fn hpsdr_status_fresh(status: *mut u32, status_cells: usize) -> u32;
 
-    /// Reads a radio frame; found is the word's address.
+    /// Reads a radio frame; found is the word's address. Beside refusals 6 and 7 stands the place.
     pub fn hpsdr_radio_read(
         frame: *const u8,
         frame_length: usize,
@@ -55,7 +74,8 @@ extern "C" {
         status_cells: usize,
     ) -> u32;
 
-    /// Reads 1 to 8 radio frames, one after another; found, on a refusal too, is the number of frames read.
+    /// Reads 1 to 8 radio frames, one after another; found, on a refusal too, is the number of frames read. Beside
+    /// refusals 6 and 7 this is the refused frame's index, counted from 0, and the place is a byte of that frame.
     pub fn hpsdr_radio_read_transfer(
         input: *const u8,
         input_length: usize,
@@ -85,7 +105,7 @@ extern "C" {
     /// The host record that all-zero words give.
     pub fn hpsdr_host_fresh(host: *mut u32, host_cells: usize) -> u32;
 
-    /// Reads a host frame; found is the word's address.
+    /// Reads a host frame; found is the word's address. Beside refusals 6 and 8 stands the place.
     pub fn hpsdr_host_read(
         frame: *const u8,
         frame_length: usize,

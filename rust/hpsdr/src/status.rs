@@ -175,7 +175,8 @@ impl Status {
     /// where the padding of that number is not all 0 in the frame; 1 and 2 receivers have no padding. Where it is not
     /// refused, what comes out is the frame read as if it had so many.
     ///
-    /// Refusals: `BadCount`, `Length`, `ShortBuffer`, `NoSync`, `Padding`.
+    /// Refusals: `BadCount`, `Length`, `ShortBuffer`, `NoSync`, `Padding`. The last two say which byte of the frame it
+    /// was.
     ///
     /// ```
     /// use hpsdr::{Status, Word, FRAME};
@@ -198,12 +199,13 @@ impl Status {
     /// ```
     /// use hpsdr::{Refusal, Status};
     ///
-    /// // Three receivers, whose frame ends in four bytes of padding. The last of them is not 0.
+    /// // Three receivers, whose frame ends in four bytes of padding. The last two of them are not 0.
     /// let mut frame = [0x7F; 512];
-    /// frame[508..].copy_from_slice(&[0, 0, 0, 1]);
+    /// frame[508..].copy_from_slice(&[0, 0, 1, 1]);
     ///
     /// let (mut status, mut iq, mut mic) = (Status::fresh(), [7; 150], [8; 25]);
-    /// assert_eq!(status.read(&frame, 3, &mut iq, &mut mic), Err(Refusal::Padding));
+    /// let refusal = status.read(&frame, 3, &mut iq, &mut mic).unwrap_err();
+    /// assert_eq!(refusal, Refusal::Padding { byte: 510 });
     /// assert_eq!(status, Status::fresh());
     /// assert_eq!((iq, mic), ([7; 150], [8; 25]));
     /// ```

@@ -1,5 +1,5 @@
 use crate::raw;
-use crate::refusal::{found, Refusal};
+use crate::refusal::{found, found_in, Refusal};
 use crate::Status;
 use std::error::Error;
 use std::fmt;
@@ -9,13 +9,17 @@ use std::io;
 /// slices, and the record is the one after them. All else is as it was.
 ///
 /// Where a frame was refused, for [`NoSync`](Refusal::NoSync) or [`Padding`](Refusal::Padding), it is the frame after
-/// these. For every other refusal no frame was looked at, and `frames` is 0.
+/// these: `frames` is its index in the input, counted from 0, and the refusal's `byte` is a byte of that frame. For every
+/// other refusal no frame was looked at, and `frames` is 0.
 ///
 /// ```
 /// use hpsdr::{Refusal, Stopped};
 ///
-/// let stopped = Stopped { refusal: Refusal::Padding, frames: 2 };
-/// assert_eq!(stopped.to_string(), "2 frames were read before the refusal: a padding byte is not 0");
+/// let stopped = Stopped { refusal: Refusal::Padding { byte: 509 }, frames: 3 };
+/// assert_eq!(stopped.to_string(), "padding byte 509 of frame 3 is not zero");
+///
+/// let stopped = Stopped { refusal: Refusal::BadCount, frames: 0 };
+/// assert_eq!(stopped.to_string(), "the receiver count is not 1 to 8");
 /// ```
 #[derive(Clone, Copy, Debug, PartialEq, Eq, Hash)]
 pub struct Stopped {
@@ -27,12 +31,19 @@ pub struct Stopped {
 
 impl fmt::Display for Stopped {
     fn fmt(&self, formatter: &mut fmt::Formatter<'_>) -> fmt::Result {
-        match self.frames {
-            0 => formatter.write_str("no frame was read")?,
-            1 => formatter.write_str("1 frame was read")?,
-            frames => write!(formatter, "{frames} frames were read")?,
+        let Stopped { refusal, frames } = self;
+        match refusal {
+            Refusal::NoSync { byte } => {
+                write!(formatter, "sync byte {byte} of frame {frames} is not 7F")
+            }
+            Refusal::Padding { byte } => {
+                write!(
+                    formatter,
+                    "padding byte {byte} of frame {frames} is not zero"
+                )
+            }
+            _ => refusal.fmt(formatter),
         }
-        write!(formatter, " before the refusal: {}", self.refusal)
     }
 }
 
@@ -83,15 +94,16 @@ impl Status {
     /// ```
     /// use hpsdr::{Refusal, Status, Stopped, FRAME};
     ///
-    /// // Three frames of zeros, which carry word 0, but for the second frame's first byte.
+    /// // Three frames of zeros, which carry word 0, but for the second frame's last byte of sync.
     /// let mut input = [0; 3 * FRAME];
     /// input.chunks_mut(FRAME).for_each(|frame| frame[..3].fill(0x7F));
-    /// input[FRAME] = 0x7E;
+    /// input[FRAME + 2] = 0x7E;
     ///
     /// let given = Status { pll: true, ain5: 500, ..Status::fresh() };
     /// let (mut status, mut iq, mut mic) = (given, [7; 3 * 126], [8; 3 * 63]);
     /// let stopped = status.read_transfer(&input, 1, &mut iq, &mut mic).unwrap_err();
-    /// assert_eq!(stopped, Stopped { refusal: Refusal::NoSync, frames: 1 });
+    /// assert_eq!(stopped, Stopped { refusal: Refusal::NoSync { byte: 2 }, frames: 1 });
+    /// assert_eq!(stopped.to_string(), "sync byte 2 of frame 1 is not 7F");
     /// assert_eq!(status, Status { pll: false, ..given });
     /// assert_eq!((&iq[..126], &mic[..63]), (&[0; 126][..], &[0; 63][..]));
     /// assert_eq!((&iq[126..], &mic[63..]), (&[7; 252][..], &[8; 126][..]));
@@ -108,7 +120,7 @@ impl Status {
         mic: &mut [i16],
     ) -> Result<usize, Stopped> {
         let got = self.read_by(raw::hpsdr_radio_read_transfer, input, receivers, iq, mic);
-        let frames = (got >> 8) as usize;
+        let frames = found_in(got) as usize;
         match found(got) {
             Ok(_) => Ok(frames),
             Err(refusal) => Err(Stopped { refusal, frames }),

@@ -3,8 +3,9 @@
 mod common;
 
 use common::frame;
-use hpsdr::{layout, Builder, Host, Refusal, Samples, Status, Stream, Word, AUDIO};
+use hpsdr::{layout, Builder, Cause, Host, Refusal, Samples, Status, Stream, Word, AUDIO};
 use std::error::Error;
+use std::io;
 
 /// None is 1 to 8. Two would be 3 if they were cut to 8 or to 32 bits.
 const BAD_COUNTS: [usize; 7] = [0, 9, 255, 256 + 3, 300, (1 << 32) + 3, usize::MAX];
@@ -45,8 +46,6 @@ fn refused_read_frame(bad: &[u8], receivers: usize, refusal: Refusal) {
 #[test]
 fn radio_read() {
     let good = frame([0x0F, 1, 2, 3, 4]);
-    let mut unsynced = good;
-    unsynced[2] = 0x7E;
     for receivers in BAD_COUNTS {
         refused_read(&good, receivers, 160, 63, Refusal::BadCount);
     }
@@ -62,16 +61,89 @@ fn radio_read() {
     refused_read(&good, 1, 125, 63, Refusal::ShortBuffer);
     refused_read(&good, 1, 126, 62, Refusal::ShortBuffer);
     refused_read(&good, 8, 159, 10, Refusal::ShortBuffer);
-    refused_read(&unsynced, 1, 126, 63, Refusal::NoSync);
+}
+
+/// Every choice of bytes of sync that are wrong, and the first of them.
+const WRONG_SYNCS: [(&[usize], usize); 7] = [
+    (&[0], 0),
+    (&[1], 1),
+    (&[2], 2),
+    (&[0, 1], 0),
+    (&[0, 2], 0),
+    (&[1, 2], 1),
+    (&[0, 1, 2], 0),
+];
+
+fn each_wrong_sync(good: [u8; 512], refused: impl Fn(&[u8], Refusal)) {
+    for (wrong, byte) in WRONG_SYNCS {
+        for value in [0, 0x7E, 0xFF] {
+            let mut unsynced = good;
+            wrong.iter().for_each(|&place| unsynced[place] = value);
+            refused(&unsynced, Refusal::NoSync { byte });
+        }
+    }
 }
 
 #[test]
+fn every_sync_byte_of_the_radio() {
+    for receivers in 1..=8 {
+        each_wrong_sync(frame([0x0F, 1, 2, 3, 4]), |unsynced, refusal| {
+            refused_read(unsynced, receivers, 160, 63, refusal);
+        });
+    }
+}
+
+#[test]
+fn every_sync_byte_of_the_host() {
+    each_wrong_sync(frame([0x01, 0x0C, 0, 0, 0x03]), |unsynced, refusal| {
+        refused_host_read(unsynced, AUDIO, refusal);
+    });
+}
+
+/// Padding begins at this byte, for each number of receivers that has padding.
+const PADDING: [(usize, usize); 6] = [(3, 508), (4, 502), (5, 488), (6, 502), (7, 492), (8, 508)];
+
+/// The frame's samples are 1 up to the padding.
+fn padded(first: usize) -> [u8; 512] {
+    let mut padded = frame([0x0F, 1, 2, 3, 4]);
+    padded[8..first].fill(1);
+    padded
+}
+
+/// The first of them is named, also where another one behind it is not 0.
+#[test]
 fn every_padding_byte() {
-    for (receivers, padding) in [(3, 4), (4, 10), (5, 24), (6, 10), (7, 20), (8, 4)] {
-        for place in 512 - padding..512 {
-            let mut padded = frame([0x0F, 1, 2, 3, 4]);
-            padded[place] = 0x80;
-            refused_read(&padded, receivers, 160, 25, Refusal::Padding);
+    for (receivers, first) in PADDING {
+        for byte in first..512 {
+            let mut padded = padded(first);
+            padded[byte] = 0x80;
+            let refusal = Refusal::Padding { byte };
+            refused_read(&padded, receivers, 160, 25, refusal);
+            for behind in byte + 1..512 {
+                padded[behind] = 1;
+                refused_read(&padded, receivers, 160, 25, refusal);
+                padded[behind] = 0;
+            }
+        }
+    }
+}
+
+/// The first, the middle one and the last by their numbers, all that follow being 0xFF.
+#[test]
+fn padding_bytes_by_hand() {
+    let bytes = [
+        (3, [508, 510, 511]),
+        (4, [502, 507, 511]),
+        (5, [488, 500, 511]),
+        (6, [502, 507, 511]),
+        (7, [492, 502, 511]),
+        (8, [508, 510, 511]),
+    ];
+    for (receivers, bytes) in bytes {
+        for byte in bytes {
+            let mut padded = frame([0; 5]);
+            padded[byte..].fill(0xFF);
+            refused_read(&padded, receivers, 160, 25, Refusal::Padding { byte });
         }
     }
 }
@@ -80,13 +152,13 @@ fn every_padding_byte() {
 #[test]
 fn order_of_a_read() {
     let mut bad = frame([0; 5]);
-    (bad[0], bad[511]) = (0, 1);
+    (bad[1], bad[510]) = (0, 1);
     refused_read(&bad[..511], 9, 0, 0, Refusal::BadCount);
     refused_read(&bad[..511], 3, 0, 0, Refusal::Length);
     refused_read(&bad, 3, 0, 0, Refusal::ShortBuffer);
-    refused_read(&bad, 3, 150, 25, Refusal::NoSync);
-    bad[0] = 0x7F;
-    refused_read(&bad, 3, 150, 25, Refusal::Padding);
+    refused_read(&bad, 3, 150, 25, Refusal::NoSync { byte: 1 });
+    bad[1] = 0x7F;
+    refused_read(&bad, 3, 150, 25, Refusal::Padding { byte: 510 });
 }
 
 fn refused_write(
@@ -178,16 +250,46 @@ fn refused_host_read(frame: &[u8], audio: usize, refusal: Refusal) {
 #[test]
 fn host_read() {
     let good = frame([0x01, 0, 0, 0, 0]);
-    let mut unsynced = good;
-    unsynced[0] = 0xFF;
     refused_host_read(&good[1..], AUDIO, Refusal::Length);
     refused_host_read(&[good.as_slice(), &[0]].concat(), AUDIO, Refusal::Length);
     refused_host_read(&good, AUDIO - 1, Refusal::ShortBuffer);
-    refused_host_read(&unsynced, AUDIO, Refusal::NoSync);
-    refused_host_read(&frame([0x01, 0x0C, 0, 0, 0]), AUDIO, Refusal::Reserved);
-    refused_host_read(&frame([0x01, 0, 0, 0, 0x03]), AUDIO, Refusal::Reserved);
-    refused_host_read(&frame([0x13, 0, 0, 0, 0x80]), AUDIO, Refusal::Reserved);
-    refused_host_read(&frame([0x15, 0x80, 0, 0, 0]), AUDIO, Refusal::Reserved);
+}
+
+/// Each alone and with every other bit of its word; of source and relay the source is named.
+#[test]
+fn every_cause() {
+    let causes = [
+        ([0x01, 0x0C, 0, 0, 0], Cause::Source10),
+        ([0x01, 0, 0, 0, 0x03], Cause::Relay),
+        ([0x13, 0, 0, 0, 0x80], Cause::Word9C4Bit7),
+        ([0x15, 0x80, 0, 0, 0], Cause::Word10C1Bit7),
+        ([0x00, 0x0C, 0, 0, 0x03], Cause::Source10),
+        ([0x00, 0xFF, 0xFF, 0xFF, 0xFF], Cause::Source10),
+        ([0x00, 0xFF, 0xFF, 0xFF, 0xFE], Cause::Source10),
+        ([0x00, 0xFB, 0xFF, 0xFF, 0xFF], Cause::Relay),
+        ([0x00, 0xF7, 0xFF, 0xFF, 0xFF], Cause::Relay),
+        ([0x12, 0xFF, 0xFF, 0xFF, 0xFF], Cause::Word9C4Bit7),
+        ([0x14, 0xFF, 0xFF, 0xFF, 0xFF], Cause::Word10C1Bit7),
+    ];
+    for (control, cause) in causes {
+        refused_host_read(&frame(control), AUDIO, Refusal::Reserved { cause });
+    }
+}
+
+/// The first that holds is given, each case mending one more thing than the one before.
+#[test]
+fn order_of_a_host_read() {
+    let mut bad = frame([0, 0x0C, 0, 0, 0x03]);
+    bad[2] = 0x7E;
+    refused_host_read(&bad[..511], 0, Refusal::Length);
+    refused_host_read(&bad, 0, Refusal::ShortBuffer);
+    refused_host_read(&bad, AUDIO, Refusal::NoSync { byte: 2 });
+    bad[2] = 0x7F;
+    let cause = Cause::Source10;
+    refused_host_read(&bad, AUDIO, Refusal::Reserved { cause });
+    bad[4] = 0;
+    let cause = Cause::Relay;
+    refused_host_read(&bad, AUDIO, Refusal::Reserved { cause });
 }
 
 fn refused_build(builder: Builder, audio: usize, frame: usize, refusal: Refusal) {
@@ -281,25 +383,73 @@ fn unsound_streams() {
     }
 }
 
+fn says(refusal: Refusal, number: u8, text: &str) {
+    assert_eq!(refusal.number(), number);
+    assert_eq!(refusal.to_string(), text);
+    assert_eq!(Box::<dyn Error>::from(refusal).to_string(), text);
+    assert_eq!(io::Error::from(refusal).to_string(), text);
+}
+
 #[test]
-fn numbers_and_texts() {
-    let all = [
-        Refusal::BadState,
-        Refusal::BadCount,
-        Refusal::Length,
-        Refusal::ShortBuffer,
-        Refusal::StreamFull,
-        Refusal::NoSync,
-        Refusal::Padding,
-        Refusal::Reserved,
-        Refusal::Range,
+fn numbers_and_texts_without_a_place() {
+    let unsound = "the stream record is unsound, or the turn is above 10";
+    let length = "the frame is not 512 bytes, the transfer is not 1 to 8 times 512, or the piece is above 4,096";
+    let short = "a sample slice is shorter than needed, or the output is under 4,096 bytes";
+    says(Refusal::BadState, 1, unsound);
+    says(Refusal::BadCount, 2, "the receiver count is not 1 to 8");
+    says(Refusal::Length, 3, length);
+    says(Refusal::ShortBuffer, 4, short);
+    let full = "more than 2^48 bytes would have been fed";
+    says(Refusal::StreamFull, 5, full);
+    says(Refusal::Range, 9, "a value to be written does not fit");
+}
+
+#[test]
+fn numbers_and_texts_with_a_byte() {
+    let sync = |byte| Refusal::NoSync { byte };
+    says(sync(0), 6, "sync byte 0 is not 7F");
+    says(sync(1), 6, "sync byte 1 is not 7F");
+    says(sync(2), 6, "sync byte 2 is not 7F");
+    let padding = |byte| Refusal::Padding { byte };
+    says(padding(488), 7, "padding byte 488 is not zero");
+    says(padding(509), 7, "padding byte 509 is not zero");
+    says(padding(511), 7, "padding byte 511 is not zero");
+}
+
+#[test]
+fn numbers_and_texts_with_a_cause() {
+    let causes = [
+        (
+            Cause::Source10,
+            "the 10 MHz source has the unassigned code 3",
+        ),
+        (Cause::Relay, "the transmit relay has the unassigned code 3"),
+        (
+            Cause::Word9C4Bit7,
+            "word 9's C4 bit 7 is set, which is unassigned",
+        ),
+        (
+            Cause::Word10C1Bit7,
+            "word 10's C1 bit 7 is set, which is unassigned",
+        ),
     ];
-    let texts = all.map(|refusal| Box::<dyn Error>::from(refusal).to_string());
-    for (number, refusal) in (1..).zip(all) {
-        assert_eq!(refusal.number(), number);
-        let alike = texts.iter().filter(|text| **text == refusal.to_string());
-        assert_eq!(alike.count(), 1);
+    for (number, (cause, text)) in (1..).zip(causes) {
+        assert_eq!(cause.number(), number);
+        assert_eq!(cause.to_string(), text);
+        says(Refusal::Reserved { cause }, 8, text);
     }
+}
+
+/// What a caller does with a byte.
+#[test]
+fn the_byte_is_an_index_of_the_frame() {
+    let mut bad = frame([0; 5]);
+    bad[509] = 0xA5;
+    let got = Status::fresh().read_frame(&bad, 3, &mut Samples::fresh());
+    let Err(Refusal::Padding { byte }) = got else {
+        panic!("{got:?}");
+    };
+    assert_eq!(bad[byte], 0xA5);
 }
 
 #[test]

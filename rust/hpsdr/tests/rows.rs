@@ -3,7 +3,7 @@
 mod common;
 
 use common::frame;
-use hpsdr::{layout, Host, Refusal, Relay, Row, Status, Stream, Word, AUDIO, OUTPUT_LEAST};
+use hpsdr::{layout, Cause, Host, Refusal, Relay, Row, Status, Stream, Word, AUDIO, OUTPUT_LEAST};
 
 /// What a frame of one receiver gives: its word, first I, first microphone value and record.
 fn read_one(frame: &[u8]) -> (Word, i32, i16, Status) {
@@ -100,7 +100,8 @@ fn h_three_receivers() {
 fn i_fourth_relay() {
     let (mut host, mut audio) = (Host::fresh(), [5; AUDIO]);
     let got = host.read(&frame([0, 0, 0, 0, 0x17]), &mut audio);
-    assert_eq!(got, Err(Refusal::Reserved));
+    let cause = Cause::Relay;
+    assert_eq!(got, Err(Refusal::Reserved { cause }));
     assert_eq!((host, audio), (Host::fresh(), [5; AUDIO]));
 }
 

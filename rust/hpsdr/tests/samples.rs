@@ -101,13 +101,14 @@ fn the_most_of_all_layouts() {
     assert_eq!((1..=8).map(iq).max(), Some(MOST_IQ));
 }
 
-/// A frame of two receivers has no padding. Its last two bytes are the microphone value 45, where three have padding;
-/// one receiver has none, and a microphone value where the second's I begins.
+/// A frame of two receivers has no padding. Its last five bytes are the last Q, 3,203,024 or 30 DF D0, and the microphone
+/// value 45, and the padding of three begins with that DF. One receiver has none, and a microphone value where the
+/// second's I begins.
 #[test]
 fn wrong_counts() {
     let (frame, mut samples) = (drawn(2, 36), Samples::fresh());
     let mut read = |receivers| Status::fresh().read_frame(&frame, receivers, &mut samples);
-    assert_eq!(read(3), Err(Refusal::Padding));
+    assert_eq!(read(3), Err(Refusal::Padding { byte: 508 }));
     assert_eq!(read(1), Ok(Word::ForwardPower));
     assert_eq!(samples.iq()[..2], [sample(0), sample(1)]);
     assert_eq!(samples.mic()[0], (sample(2) >> 8) as i16);

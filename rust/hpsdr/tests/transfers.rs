@@ -68,26 +68,34 @@ fn as_many_single_reads() {
     }
 }
 
-/// Damages each of eight frames in turn, at one place of it.
-fn stops_at_each(receivers: usize, place: usize, refusal: Refusal) {
+/// Damages each of eight frames in turn, at one byte of it: alone, then with all behind it up to an end, and with the
+/// whole frame behind.
+fn stops_at_each(receivers: usize, byte: usize, end: usize, refusal: Refusal) {
     let row = layout(receivers).unwrap();
     let whole = frames(MOST_FRAMES, row);
     for frames in 0..MOST_FRAMES {
+        let at = FRAME * frames;
         let mut input = whole.clone();
-        input[FRAME * frames + place] ^= 0x80;
-        let mut stopped = Lent::for_frames(MOST_FRAMES, receivers, row);
-        let mut before = stopped.clone();
-        let got = stopped.read_transfer(&input, receivers);
-        assert_eq!(got, Err(Stopped { refusal, frames }));
-        before.read_singly(&whole[..FRAME * frames], receivers, row);
-        assert_eq!(stopped, before, "after {frames} frames of {receivers}");
+        input[at + byte] ^= 0x80;
+        let mut more = input.clone();
+        more[at + byte + 1..at + end].fill(0xFF);
+        let behind = &mut more[at + FRAME..];
+        behind.iter_mut().take(FRAME).for_each(|byte| *byte = 0xFF);
+        for input in [input, more] {
+            let mut stopped = Lent::for_frames(MOST_FRAMES, receivers, row);
+            let mut before = stopped.clone();
+            let got = stopped.read_transfer(&input, receivers);
+            assert_eq!(got, Err(Stopped { refusal, frames }));
+            before.read_singly(&whole[..at], receivers, row);
+            assert_eq!(stopped, before, "after {frames} frames of {receivers}");
+        }
     }
 }
 
 #[test]
 fn stops_at_a_frame_without_sync() {
     for receivers in 1..=8 {
-        (0..3).for_each(|place| stops_at_each(receivers, place, Refusal::NoSync));
+        (0..3).for_each(|byte| stops_at_each(receivers, byte, 3, Refusal::NoSync { byte }));
     }
 }
 
@@ -95,8 +103,8 @@ fn stops_at_a_frame_without_sync() {
 fn stops_at_a_frame_with_damaged_padding() {
     for receivers in 3..=8 {
         let padding = layout(receivers).unwrap().padding;
-        for place in FRAME - padding..FRAME {
-            stops_at_each(receivers, place, Refusal::Padding);
+        for byte in FRAME - padding..FRAME {
+            stops_at_each(receivers, byte, FRAME, Refusal::Padding { byte });
         }
     }
 }
@@ -109,8 +117,25 @@ fn the_first_refused_frame_decides() {
     input[2 * FRAME + 511] = 1;
     input[3 * FRAME] = 0;
     let got = Lent::for_frames(5, 3, row).read_transfer(&input, 3);
-    let (refusal, frames) = (Refusal::Padding, 2);
+    let (refusal, frames) = (Refusal::Padding { byte: 511 }, 2);
     assert_eq!(got, Err(Stopped { refusal, frames }));
+}
+
+/// The refused frame's byte is this one of the input.
+#[test]
+fn place_in_the_input() {
+    let row = layout(5).unwrap();
+    let mut input = frames(6, row);
+    input[4 * FRAME + 500] = 0xA5;
+    let got = Lent::for_frames(6, 5, row).read_transfer(&input, 5);
+    let Err(Stopped {
+        refusal: Refusal::Padding { byte },
+        frames,
+    }) = got
+    else {
+        panic!("{got:?}");
+    };
+    assert_eq!((frames, byte, input[FRAME * frames + byte]), (4, 500, 0xA5));
 }
 
 fn refused_whole(input: &[u8], receivers: usize, (iq, mic): (usize, usize), refusal: Refusal) {
@@ -156,16 +181,30 @@ fn lengths() {
     }
 }
 
+fn says(refusal: Refusal, frames: usize, text: &str) {
+    let stopped = Stopped { refusal, frames };
+    assert_eq!(stopped.to_string(), text);
+    assert_eq!(io::Error::from(stopped).to_string(), text);
+    assert_eq!(Box::<dyn Error>::from(stopped).to_string(), text);
+}
+
 #[test]
-fn texts() {
-    let text = |frames| {
-        let refusal = Refusal::NoSync;
-        let stopped = Stopped { refusal, frames };
-        assert_eq!(io::Error::from(stopped).to_string(), stopped.to_string());
-        Box::<dyn Error>::from(stopped).to_string()
-    };
-    let why = "before the refusal: the frame's first three bytes are not 7F 7F 7F";
-    assert_eq!(text(0), format!("no frame was read {why}"));
-    assert_eq!(text(1), format!("1 frame was read {why}"));
-    assert_eq!(text(7), format!("7 frames were read {why}"));
+fn texts_of_a_refused_frame() {
+    let sync = |byte| Refusal::NoSync { byte };
+    says(sync(0), 0, "sync byte 0 of frame 0 is not 7F");
+    says(sync(1), 3, "sync byte 1 of frame 3 is not 7F");
+    says(sync(2), 7, "sync byte 2 of frame 7 is not 7F");
+    let padding = |byte| Refusal::Padding { byte };
+    says(padding(488), 0, "padding byte 488 of frame 0 is not zero");
+    says(padding(509), 3, "padding byte 509 of frame 3 is not zero");
+    says(padding(511), 7, "padding byte 511 of frame 7 is not zero");
+}
+
+#[test]
+fn texts_of_a_refused_input() {
+    let length = "the frame is not 512 bytes, the transfer is not 1 to 8 times 512, or the piece is above 4,096";
+    let short = "a sample slice is shorter than needed, or the output is under 4,096 bytes";
+    says(Refusal::BadCount, 0, "the receiver count is not 1 to 8");
+    says(Refusal::Length, 0, length);
+    says(Refusal::ShortBuffer, 0, short);
 }

@@ -1,0 +1,282 @@
+//! What the header's calls return, all 32 bits of it: the answer in bits 7 to 0, what was found in bits 15 to 8, and the
+//! place in bits 31 to 16, which are 0 but beside refusals 6, 7 and 8.
+
+mod common;
+
+use common::frame;
+use hpsdr::raw;
+
+/// A status record of zeros.
+const STATUS: [u32; raw::STATUS_CELLS] = [0; raw::STATUS_CELLS];
+
+/// A call that reads radio frames, for so many receivers, into room for so many values of I and Q and the microphone.
+fn read(
+    call: raw::RadioRead,
+    input: &[u8],
+    receivers: usize,
+    (iq, mic): (usize, usize),
+    status: &[u32],
+) -> u32 {
+    let (mut iq, mut mic, mut status) = (vec![7; iq], vec![8; mic], status.to_vec());
+    // SAFETY: the call is one of the two of `raw`; each pointer and number are those of one slice, and none overlaps.
+    unsafe {
+        call(
+            input.as_ptr(),
+            input.len(),
+            receivers,
+            iq.as_mut_ptr(),
+            iq.len(),
+            mic.as_mut_ptr(),
+            mic.len(),
+            status.as_mut_ptr(),
+            status.len(),
+        )
+    }
+}
+
+fn radio_read(frame: &[u8], receivers: usize) -> u32 {
+    read(raw::hpsdr_radio_read, frame, receivers, (160, 63), &STATUS)
+}
+
+fn transfer(input: &[u8], receivers: usize) -> u32 {
+    let (call, room) = (raw::hpsdr_radio_read_transfer, (8 * 160, 8 * 63));
+    read(call, input, receivers, room, &STATUS)
+}
+
+fn host_read(frame: &[u8], audio: usize, host: &[u32]) -> u32 {
+    let (mut audio, mut host) = (vec![7; audio], host.to_vec());
+    // SAFETY: each pointer and number are those of one slice, and none overlaps another.
+    unsafe {
+        raw::hpsdr_host_read(
+            frame.as_ptr(),
+            frame.len(),
+            audio.as_mut_ptr(),
+            audio.len(),
+            host.as_mut_ptr(),
+            host.len(),
+        )
+    }
+}
+
+/// A frame of word 0 in which these bytes are 1.
+fn with_ones(places: &[usize]) -> [u8; 512] {
+    let mut frame = frame([0; 5]);
+    places.iter().for_each(|&place| frame[place] = 1);
+    frame
+}
+
+#[test]
+fn places_of_a_radio_read() {
+    let cases: [(&[usize], usize, u32); 11] = [
+        (&[0], 1, 0x0000_0006),
+        (&[1], 2, 0x0001_0006),
+        (&[2], 8, 0x0002_0006),
+        (&[0, 1, 2, 511], 3, 0x0000_0006),
+        (&[1, 2, 508], 3, 0x0001_0006),
+        (&[508], 3, 0x01FC_0007),
+        (&[507, 509, 511], 3, 0x01FD_0007),
+        (&[511], 4, 0x01FF_0007),
+        (&[488, 511], 5, 0x01E8_0007),
+        (&[492, 500], 7, 0x01EC_0007),
+        (&[507, 508], 8, 0x01FC_0007),
+    ];
+    for (places, receivers, returned) in cases {
+        let got = radio_read(&with_ones(places), receivers);
+        assert_eq!(got, returned, "{places:?} of {receivers}");
+    }
+}
+
+/// Frame 3 of eight is damaged, and frame 5.
+#[test]
+fn places_of_a_transfer() {
+    let cases: [(&[usize], usize, u32); 6] = [
+        (&[0], 1, 0x0000_0306),
+        (&[1, 2], 2, 0x0001_0306),
+        (&[2, 511], 8, 0x0002_0306),
+        (&[509], 3, 0x01FD_0307),
+        (&[488, 511], 5, 0x01E8_0307),
+        (&[511], 7, 0x01FF_0307),
+    ];
+    for (places, receivers, returned) in cases {
+        let mut frames = [with_ones(&[]); 8];
+        frames[3] = with_ones(places);
+        frames[5] = with_ones(&[0, 1, 2, 508, 509, 510, 511]);
+        let got = transfer(&frames.concat(), receivers);
+        assert_eq!(got, returned, "{places:?} of {receivers}");
+    }
+}
+
+/// Each cause, and then without its third byte of sync, without its last two, and without any.
+#[test]
+fn places_of_a_host_read() {
+    let cases = [
+        ([0x00, 0x0C, 0, 0, 0x00], 0x0001_0008),
+        ([0x00, 0x0C, 0, 0, 0x03], 0x0001_0008),
+        ([0x00, 0x08, 0, 0, 0x03], 0x0002_0008),
+        ([0x12, 0x0C, 0, 0, 0x83], 0x0003_0008),
+        ([0x14, 0x8C, 0, 0, 0x83], 0x0004_0008),
+    ];
+    for (control, returned) in cases {
+        let mut frame = frame(control);
+        assert_eq!(host_read(&frame, 252, &[0; 62]), returned);
+        for byte in [2, 1, 0] {
+            frame[byte] = 0;
+            let returned = (byte as u32) << 16 | 6;
+            assert_eq!(host_read(&frame, 252, &[0; 62]), returned);
+        }
+    }
+}
+
+/// Accepted, or refused for what is not in a frame, there is no place, whatever the frame has.
+#[test]
+fn no_place_of_a_radio_read() {
+    let call = raw::hpsdr_radio_read;
+    assert_eq!(radio_read(&frame([0; 5]), 3), 0);
+    assert_eq!(radio_read(&frame([31 << 3, 0, 0, 0, 0]), 3), 31 << 8);
+    for bad in [with_ones(&[1, 510]), with_ones(&[510])] {
+        assert_eq!(read(call, &bad, 3, (150, 25), &STATUS[1..]), 1);
+        assert_eq!(read(call, &bad, 3, (150, 25), &[2; 26]), 1);
+        for receivers in [0, 9, usize::MAX] {
+            assert_eq!(read(call, &bad, receivers, (150, 25), &STATUS), 2);
+        }
+        assert_eq!(read(call, &bad[..511], 3, (150, 25), &STATUS), 3);
+        assert_eq!(read(call, &bad.repeat(2), 3, (150, 25), &STATUS), 3);
+        assert_eq!(read(call, &bad, 3, (149, 25), &STATUS), 4);
+        assert_eq!(read(call, &bad, 3, (150, 24), &STATUS), 4);
+    }
+}
+
+#[test]
+fn no_place_of_a_transfer() {
+    let call = raw::hpsdr_radio_read_transfer;
+    for frames in 1..=8 {
+        let got = transfer(&frame([0; 5]).repeat(frames), 3);
+        assert_eq!(got, (frames as u32) << 8);
+    }
+    for bad in [with_ones(&[1, 510]), with_ones(&[510])] {
+        let bad = bad.repeat(2);
+        assert_eq!(read(call, &bad, 3, (300, 50), &STATUS[1..]), 1);
+        assert_eq!(read(call, &bad, 3, (300, 50), &[2; 26]), 1);
+        for receivers in [0, 9, usize::MAX] {
+            assert_eq!(read(call, &bad, receivers, (300, 50), &STATUS), 2);
+        }
+        assert_eq!(read(call, &bad[1..], 3, (300, 50), &STATUS), 3);
+        assert_eq!(read(call, &[], 3, (300, 50), &STATUS), 3);
+        assert_eq!(read(call, &bad, 3, (299, 50), &STATUS), 4);
+        assert_eq!(read(call, &bad, 3, (300, 49), &STATUS), 4);
+    }
+}
+
+#[test]
+fn no_place_of_a_host_read() {
+    assert_eq!(host_read(&frame([0; 5]), 252, &[0; 62]), 0);
+    let last = frame([0xFE, 0x8C, 0, 0, 0x83]);
+    assert_eq!(host_read(&last, 252, &[0; 62]), 127 << 8);
+    let reserved = frame([0, 0x0C, 0, 0, 0x03]);
+    for bad in [with_ones(&[1]), reserved] {
+        assert_eq!(host_read(&bad, 252, &[0; 61]), 1);
+        assert_eq!(host_read(&bad, 252, &[2; 62]), 1);
+        assert_eq!(host_read(&bad[..511], 252, &[0; 62]), 3);
+        assert_eq!(host_read(&bad, 251, &[0; 62]), 4);
+    }
+}
+
+fn radio_write(word: usize, receivers: usize, iq: &[i32], mic: usize, frame: usize) -> u32 {
+    let (mic, mut frame) = (vec![0; mic], vec![0; frame]);
+    // SAFETY: each pointer and number are those of one slice, and none overlaps another.
+    unsafe {
+        raw::hpsdr_radio_write(
+            STATUS.as_ptr(),
+            STATUS.len(),
+            word,
+            receivers,
+            iq.as_ptr(),
+            iq.len(),
+            mic.as_ptr(),
+            mic.len(),
+            frame.as_mut_ptr(),
+            frame.len(),
+        )
+    }
+}
+
+#[test]
+fn no_place_of_a_radio_write() {
+    let mut iq = [0; 150];
+    assert_eq!(radio_write(4, 3, &iq, 25, 512), 0);
+    assert_eq!(radio_write(4, 9, &iq, 25, 512), 2);
+    assert_eq!(radio_write(4, 3, &iq, 25, 511), 3);
+    assert_eq!(radio_write(4, 3, &iq, 24, 512), 4);
+    assert_eq!(radio_write(5, 3, &iq, 25, 512), 9);
+    iq[149] = 1 << 23;
+    assert_eq!(radio_write(4, 3, &iq, 25, 512), 9);
+}
+
+/// Of a fresh host record but for its outputs, with a turn.
+fn build(turn: u32, outputs: u32, audio: usize, frame: usize) -> u32 {
+    let mut builder = [0; raw::BUILDER_CELLS];
+    (builder[7], builder[16], builder[62]) = (outputs, 1, turn);
+    let (audio, mut frame) = (vec![0; audio], vec![0; frame]);
+    // SAFETY: each pointer and number are those of one slice or array, and none overlaps another.
+    unsafe {
+        raw::hpsdr_build(
+            builder.as_mut_ptr(),
+            builder.len(),
+            audio.as_ptr(),
+            audio.len(),
+            frame.as_mut_ptr(),
+            frame.len(),
+        )
+    }
+}
+
+#[test]
+fn no_place_of_a_build() {
+    assert_eq!(build(10, 127, 252, 512), 0);
+    assert_eq!(build(11, 127, 252, 512), 1);
+    assert_eq!(build(10, 127, 252, 511), 3);
+    assert_eq!(build(10, 127, 251, 512), 4);
+    assert_eq!(build(10, 128, 252, 512), 9);
+}
+
+fn feed(total: u64, piece: &[u8], output: usize) -> u32 {
+    let (mut counts, mut held) = ([0, 0, total, total], [0; raw::HELD]);
+    let mut output = vec![0; output];
+    // SAFETY: each pointer and number are those of one slice or array, and none overlaps another.
+    unsafe {
+        raw::hpsdr_stream_feed(
+            counts.as_mut_ptr(),
+            counts.len(),
+            held.as_mut_ptr(),
+            held.len(),
+            piece.as_ptr(),
+            piece.len(),
+            output.as_mut_ptr(),
+            output.len(),
+        )
+    }
+}
+
+/// In bytes that are all 7F a frame begins every 512.
+#[test]
+fn no_place_of_a_feed() {
+    let mut piece = [0x7F; 4097];
+    assert_eq!(feed(0, &piece[..2 * 512 + 3], 4096), 2 << 8);
+    assert_eq!(feed(0, &piece[..4096], 4096), 7 << 8);
+    assert_eq!(feed((1 << 48) + 1, &piece[..3], 4096), 1);
+    assert_eq!(feed(0, &piece, 4096), 3);
+    assert_eq!(feed(0, &piece[..512], 4095), 4);
+    assert_eq!(feed((1 << 48) - 2, &piece[..3], 4096), 5);
+    piece[512] = 0;
+    assert_eq!(feed(0, &piece[..515], 4096), 0);
+}
+
+#[test]
+fn no_place_of_a_layout() {
+    let mut row = [0; raw::ROW_CELLS];
+    for (receivers, returned) in [(0, 2), (1, 0), (8, 0), (9, 2)] {
+        // SAFETY: the pointer and the number are those of one array.
+        let got = unsafe { raw::hpsdr_layout(receivers, row.as_mut_ptr(), row.len()) };
+        assert_eq!(got, returned);
+    }
+}
