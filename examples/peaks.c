@@ -52,11 +52,12 @@ static void take_frames(struct summary *summary, const uint8_t *frames, size_t c
 
 static bool take_recording(struct summary *summary, FILE *recording) {
     static uint8_t piece[HPSDR_PIECE_MOST], output[HPSDR_OUTPUT_LEAST];
+    char text[HPSDR_TEXT];
     size_t length;
     while ((length = fread(piece, 1, sizeof piece, recording)) > 0) {
         const uint32_t got = hpsdr_feed(&summary->stream, piece, length, output);
         if (hpsdr_answer_of(got) != HPSDR_ACCEPTED) {
-            fprintf(stderr, "peaks: the stream reader refused: %s\n", hpsdr_answer_sentence(hpsdr_answer_of(got)));
+            fprintf(stderr, "peaks: the stream reader refused: %s\n", hpsdr_refusal_text(got, text));
             return false;
         }
         take_frames(summary, output, hpsdr_found_in(got));

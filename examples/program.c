@@ -9,6 +9,7 @@ int main(void) {
     struct hpsdr_stream stream;
     struct hpsdr_status status;
     struct hpsdr_samples samples;
+    char text[HPSDR_TEXT];
     size_t length;
 
     hpsdr_stream_init(&stream);
@@ -21,7 +22,7 @@ int main(void) {
                 printf("word %" PRIu32 ", receiver 3 begins with %" PRId32 "\n", hpsdr_found_in(got),
                        hpsdr_i(&samples, 3, 2, 0));
             else
-                printf("refused: %s\n", hpsdr_answer_sentence(hpsdr_answer_of(got)));
+                printf("refused: %s\n", hpsdr_refusal_text(got, text));
         }
     }
     printf("%" PRIu64 " bytes skipped, %" PRIu64 " held\n", stream.counts.skipped, stream.counts.held);
