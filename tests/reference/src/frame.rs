@@ -1,7 +1,7 @@
 //! What radio and host frames share: sync, control bytes, payload, and the
 //! layout of radio slots.
 
-use crate::refusal::{BAD_COUNT, LENGTH, NO_SYNC};
+use crate::refusal::Refusal;
 
 pub(crate) const FRAME: usize = 512;
 pub(crate) const SYNC: [u8; 3] = [0x7F; 3];
@@ -33,9 +33,9 @@ pub(crate) fn slot_size(receivers: usize) -> usize {
 
 /// The layout for a receiver count of 1 to 8; any other is refused 2.
 #[inline]
-pub fn row(receivers: usize) -> Result<Row, u8> {
+pub fn row(receivers: usize) -> Result<Row, Refusal> {
     if !(1..=8).contains(&receivers) {
-        return Err(BAD_COUNT);
+        return Err(Refusal::BadCount);
     }
     let slot = slot_size(receivers);
     let slots = PAYLOAD / slot;
@@ -49,24 +49,31 @@ pub fn row(receivers: usize) -> Result<Row, u8> {
 
 /// The slice as a frame, if it is 512 bytes long.
 #[inline]
-pub(crate) fn whole(frame: &[u8]) -> Result<&[u8; FRAME], u8> {
-    frame.try_into().map_err(|_| LENGTH)
+pub(crate) fn whole(frame: &[u8]) -> Result<&[u8; FRAME], Refusal> {
+    frame.try_into().map_err(|_| Refusal::Length)
 }
 
 /// The slice as a frame to write, if it is 512 bytes long.
 #[inline]
-pub(crate) fn whole_mut(frame: &mut [u8]) -> Result<&mut [u8; FRAME], u8> {
-    frame.try_into().map_err(|_| LENGTH)
+pub(crate) fn whole_mut(frame: &mut [u8]) -> Result<&mut [u8; FRAME], Refusal> {
+    frame.try_into().map_err(|_| Refusal::Length)
 }
 
 /// C0 to C4 and the payload of a frame that begins with sync.
 #[inline]
-pub(crate) fn open(frame: &[u8; FRAME]) -> Result<(Control, &[u8]), u8> {
+pub(crate) fn open(frame: &[u8; FRAME]) -> Result<(Control, &[u8]), Refusal> {
     let [s0, s1, s2, c0, c1, c2, c3, c4, payload @ ..] = frame;
     if [*s0, *s1, *s2] != SYNC {
-        return Err(NO_SYNC);
+        return Err(no_sync(frame));
     }
     Ok(([*c0, *c1, *c2, *c3, *c4], payload))
+}
+
+#[cold]
+fn no_sync(frame: &[u8; FRAME]) -> Refusal {
+    let bytes = frame.iter().zip(SYNC);
+    let byte = bytes.take_while(|(&byte, sync)| byte == *sync).count();
+    Refusal::NoSync { byte }
 }
 
 /// Writes sync and C0 to C4; gives the payload still to be written.

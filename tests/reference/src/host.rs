@@ -3,7 +3,7 @@
 
 use crate::bits::{bit, byte, code, flags};
 use crate::frame::{begin, open, whole, whole_mut, Control};
-use crate::refusal::{BAD_STATE, RANGE, RESERVED, SHORT_BUFFER};
+use crate::refusal::{Cause, Refusal};
 
 /// 63 slots of L, R, I and Q.
 const AUDIO: usize = 252;
@@ -236,10 +236,6 @@ impl Host {
         [c1, c2, self.word10_c3, self.word10_c4]
     }
 
-    fn has_unassigned_code(&self) -> bool {
-        self.source10 == UNASSIGNED || self.relay == UNASSIGNED
-    }
-
     fn fits(&self) -> bool {
         let one_bit_codes = [self.source122, self.microphone, self.orion_jack];
         let two_bit_codes = [
@@ -259,13 +255,21 @@ impl Host {
     }
 }
 
-/// Whether an unassigned code or bit is set in the word.
-fn sets_reserved([c0, c1, _, _, c4]: Control) -> bool {
+/// The first of the two codes that is unassigned.
+fn unassigned(source10: u8, relay: u8) -> Option<Cause> {
+    if source10 == UNASSIGNED {
+        return Some(Cause::Source10);
+    }
+    (relay == UNASSIGNED).then_some(Cause::Relay)
+}
+
+/// The first unassigned code or bit that is set in the word.
+fn reserved([c0, c1, _, _, c4]: Control) -> Option<Cause> {
     match c0 >> 1 {
-        0 => code(c1, 2) == UNASSIGNED || code(c4, 0) == UNASSIGNED,
-        9 => bit(c4, 7),
-        10 => bit(c1, 7),
-        _ => false,
+        0 => unassigned(code(c1, 2), code(c4, 0)),
+        9 => bit(c4, 7).then_some(Cause::Word9C4Bit7),
+        10 => bit(c1, 7).then_some(Cause::Word10C1Bit7),
+        _ => None,
     }
 }
 
@@ -273,13 +277,14 @@ fn sets_reserved([c0, c1, _, _, c4]: Control) -> bool {
 /// into the host record. `Ok` is the word's address, 0 to 127.
 ///
 /// Refused: 3 for a frame not of 512 bytes, 4 for an audio slice under 252, 6
-/// without sync, 8 for an unassigned code or bit.
-pub fn host_read(frame: &[u8], audio: &mut [i16], host: &mut Host) -> Result<u8, u8> {
+/// without sync, 8 for an unassigned code or bit. The last two say the first
+/// byte or code that is wrong.
+pub fn host_read(frame: &[u8], audio: &mut [i16], host: &mut Host) -> Result<u8, Refusal> {
     let frame = whole(frame)?;
-    let audio = audio.get_mut(..AUDIO).ok_or(SHORT_BUFFER)?;
+    let audio = audio.get_mut(..AUDIO).ok_or(Refusal::ShortBuffer)?;
     let (control, payload) = open(frame)?;
-    if sets_reserved(control) {
-        return Err(RESERVED);
+    if let Some(cause) = reserved(control) {
+        return Err(Refusal::Reserved { cause });
     }
     for (number, pair) in audio.iter_mut().zip(payload.chunks_exact(2)) {
         *number = i16::from_be_bytes([pair[0], pair[1]]);
@@ -294,18 +299,18 @@ pub fn host_read(frame: &[u8], audio: &mut [i16], host: &mut Host) -> Result<u8,
 /// collector outputs above 127, receivers not 1 to 8, a line-in gain above 31,
 /// top bits of word 10's C2 above 7, or a code that its bits cannot hold. The
 /// whole record is tested, whichever word is due.
-pub fn build(builder: &mut Builder, audio: &[i16], frame: &mut [u8]) -> Result<(), u8> {
+pub fn build(builder: &mut Builder, audio: &[i16], frame: &mut [u8]) -> Result<(), Refusal> {
     let Builder { host, turn } = builder;
     if *turn > LAST_TURN {
-        return Err(BAD_STATE);
+        return Err(Refusal::BadState);
     }
     let frame = whole_mut(frame)?;
-    let audio = audio.get(..AUDIO).ok_or(SHORT_BUFFER)?;
-    if host.has_unassigned_code() {
-        return Err(RESERVED);
+    let audio = audio.get(..AUDIO).ok_or(Refusal::ShortBuffer)?;
+    if let Some(cause) = unassigned(host.source10, host.relay) {
+        return Err(Refusal::Reserved { cause });
     }
     if !host.fits() {
-        return Err(RANGE);
+        return Err(Refusal::Range);
     }
     let payload = begin(frame, host.control(*turn));
     for (pair, number) in payload.chunks_exact_mut(2).zip(audio) {

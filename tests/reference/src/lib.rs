@@ -1,8 +1,9 @@
 //! An independent implementation of the frames and the stream reader that
-//! document 01 (the scope) defines, with the requests T-01 (transfers) and
-//! T-07 (host word 10).
+//! document 01 (the scope) defines, with the requests T-01 (transfers), T-02
+//! (the place of a refusal) and T-07 (host word 10).
 //!
-//! Every refusal is `Err` of its number in the scope's table:
+//! Every refusal is `Err` of a [`Refusal`], which has the scope's number and,
+//! for 6, 7 and 8, says its place:
 //!
 //! | No. | Name |
 //! |---|---|
@@ -33,5 +34,6 @@ mod transfer;
 pub use frame::{row, Row};
 pub use host::{build, host_read, Builder, Host};
 pub use radio::{radio_read, radio_write, Status};
+pub use refusal::{Cause, Refusal};
 pub use stream::{Stream, MOST};
 pub use transfer::{radio_read_transfer, Stopped};

@@ -1,8 +1,8 @@
 //! Radio frames (EP6) and the status record.
 
 use crate::bits::{bit, byte, flags};
-use crate::frame::{begin, open, row, slot_size, whole, whole_mut, Control, IQ_SIZE};
-use crate::refusal::{PADDING, RANGE, SHORT_BUFFER};
+use crate::frame::{begin, open, row, slot_size, whole, whole_mut, Control, FRAME, IQ_SIZE};
+use crate::refusal::Refusal;
 
 const SAMPLE_LEAST: i32 = -8_388_608;
 const SAMPLE_MOST: i32 = 8_388_607;
@@ -142,23 +142,24 @@ fn levels(first: u16, second: u16) -> [u8; 4] {
 /// 31.
 ///
 /// Refused: 2 for a receiver count not 1 to 8, 3 for a frame not of 512 bytes,
-/// 4 for a sample slice too short, 6 without sync, 7 for padding not zero.
+/// 4 for a sample slice too short, 6 without sync, 7 for padding not zero. The
+/// last two say the first byte that is wrong.
 pub fn radio_read(
     frame: &[u8],
     receivers: usize,
     iq: &mut [i32],
     mic: &mut [i16],
     status: &mut Status,
-) -> Result<u8, u8> {
+) -> Result<u8, Refusal> {
     let row = row(receivers)?;
     let frame = whole(frame)?;
     let needed = 2 * receivers * row.slots;
-    let iq = iq.get_mut(..needed).ok_or(SHORT_BUFFER)?;
-    let mic = mic.get_mut(..row.slots).ok_or(SHORT_BUFFER)?;
+    let iq = iq.get_mut(..needed).ok_or(Refusal::ShortBuffer)?;
+    let mic = mic.get_mut(..row.slots).ok_or(Refusal::ShortBuffer)?;
     let (control, payload) = open(frame)?;
     let (slots, padding) = payload.split_at(row.slots * row.slot);
     if padding.iter().any(|&byte| byte != 0) {
-        return Err(PADDING);
+        return Err(not_zero(padding));
     }
     read_slots(slots, receivers, iq, mic);
     Ok(status.take(control))
@@ -176,20 +177,29 @@ pub fn radio_write(
     iq: &[i32],
     mic: &[i16],
     frame: &mut [u8],
-) -> Result<(), u8> {
+) -> Result<(), Refusal> {
     let row = row(receivers)?;
     let frame = whole_mut(frame)?;
     let needed = 2 * receivers * row.slots;
-    let iq = iq.get(..needed).ok_or(SHORT_BUFFER)?;
-    let mic = mic.get(..row.slots).ok_or(SHORT_BUFFER)?;
+    let iq = iq.get(..needed).ok_or(Refusal::ShortBuffer)?;
+    let mic = mic.get(..row.slots).ok_or(Refusal::ShortBuffer)?;
     if word > LAST_WORD || !status.fits() || !samples_fit(iq) {
-        return Err(RANGE);
+        return Err(Refusal::Range);
     }
     let payload = begin(frame, status.control(word));
     let (slots, padding) = payload.split_at_mut(row.slots * row.slot);
     write_slots(slots, receivers, iq, mic);
     padding.fill(0);
     Ok(())
+}
+
+/// The padding ends where the frame does.
+#[cold]
+fn not_zero(padding: &[u8]) -> Refusal {
+    let zeros = padding.iter().take_while(|&&byte| byte == 0).count();
+    Refusal::Padding {
+        byte: FRAME - padding.len() + zeros,
+    }
 }
 
 fn read_slots(slots: &[u8], receivers: usize, iq: &mut [i32], mic: &mut [i16]) {

@@ -1,11 +1,64 @@
-//! The nine refusals, by the scope's numbers.
+//! The nine refusals of the scope, and what request T-02 has three of them say.
 
-pub(crate) const BAD_STATE: u8 = 1;
-pub(crate) const BAD_COUNT: u8 = 2;
-pub(crate) const LENGTH: u8 = 3;
-pub(crate) const SHORT_BUFFER: u8 = 4;
-pub(crate) const STREAM_FULL: u8 = 5;
-pub(crate) const NO_SYNC: u8 = 6;
-pub(crate) const PADDING: u8 = 7;
-pub(crate) const RESERVED: u8 = 8;
-pub(crate) const RANGE: u8 = 9;
+/// Why a call is refused. The refusals stand in the order in which they are tested, and so do the
+/// places of each: the least that holds is the answer.
+#[derive(Clone, Copy, Debug, PartialEq, Eq, PartialOrd, Ord)]
+pub enum Refusal {
+    /// An unsound stream record, or a turn above 10.
+    BadState,
+    /// A receiver count not 1 to 8.
+    BadCount,
+    /// A frame, piece or transfer of a length that it cannot have.
+    Length,
+    /// A slice too short.
+    ShortBuffer,
+    /// A total above 2^48.
+    StreamFull,
+    /// No sync.
+    NoSync {
+        /// The first of the bytes 0 to 2 that is not 7F.
+        byte: usize,
+    },
+    /// Padding that is not zero.
+    Padding {
+        /// The first such byte, as a byte of the frame.
+        byte: usize,
+    },
+    /// An unassigned host code or bit.
+    Reserved {
+        /// The first that is set.
+        cause: Cause,
+    },
+    /// A value that does not fit.
+    Range,
+}
+
+/// The unassigned host codes and bits, in the order in which they are tested.
+#[derive(Clone, Copy, Debug, PartialEq, Eq, PartialOrd, Ord)]
+pub enum Cause {
+    /// Word 0's 10 MHz source of code 3.
+    Source10,
+    /// Word 0's transmit relay of code 3.
+    Relay,
+    /// Word 9's C4 bit 7.
+    Word9C4Bit7,
+    /// Word 10's C1 bit 7.
+    Word10C1Bit7,
+}
+
+impl Refusal {
+    /// Its number in the scope's table.
+    pub fn number(self) -> u8 {
+        match self {
+            Refusal::BadState => 1,
+            Refusal::BadCount => 2,
+            Refusal::Length => 3,
+            Refusal::ShortBuffer => 4,
+            Refusal::StreamFull => 5,
+            Refusal::NoSync { .. } => 6,
+            Refusal::Padding { .. } => 7,
+            Refusal::Reserved { .. } => 8,
+            Refusal::Range => 9,
+        }
+    }
+}

@@ -1,7 +1,7 @@
 //! The stream reader: frames out of bytes that come in pieces.
 
 use crate::frame::{FRAME, SYNC};
-use crate::refusal::{BAD_STATE, LENGTH, SHORT_BUFFER, STREAM_FULL};
+use crate::refusal::Refusal;
 
 /// The most bytes a piece may have, and the least an output must have.
 pub const MOST: usize = 4096;
@@ -57,19 +57,19 @@ impl Stream {
     ///
     /// Refused: 1 if the record is unsound, 3 if the piece is above [`MOST`],
     /// 4 if the output is below it, 5 if the total would pass 2^48.
-    pub fn feed(&mut self, piece: &[u8], output: &mut [u8]) -> Result<usize, u8> {
+    pub fn feed(&mut self, piece: &[u8], output: &mut [u8]) -> Result<usize, Refusal> {
         if !self.sound() {
-            return Err(BAD_STATE);
+            return Err(Refusal::BadState);
         }
         if piece.len() > MOST {
-            return Err(LENGTH);
+            return Err(Refusal::Length);
         }
         if output.len() < MOST {
-            return Err(SHORT_BUFFER);
+            return Err(Refusal::ShortBuffer);
         }
         let total = self.total + piece.len() as u64;
         if total > TOTAL_MOST {
-            return Err(STREAM_FULL);
+            return Err(Refusal::StreamFull);
         }
         self.total = total;
         if self.count + piece.len() <= HELD {

@@ -2,15 +2,15 @@
 
 use crate::frame::{row, FRAME};
 use crate::radio::{radio_read, Status};
-use crate::refusal::{LENGTH, SHORT_BUFFER};
+use crate::refusal::Refusal;
 
 /// The refusal that ended the reading of a transfer, and the frames that
 /// stay read.
 #[derive(Clone, Copy, Debug, PartialEq, Eq)]
 pub struct Stopped {
-    /// The refusal's number.
-    pub refusal: u8,
-    /// How many frames were read before it.
+    /// The refusal. A place in it is one of the refused frame.
+    pub refusal: Refusal,
+    /// How many frames were read before it: the refused frame's index, from 0.
     pub frames: usize,
 }
 
@@ -21,15 +21,15 @@ fn values_of_a_frame(
     receivers: usize,
     iq: &[i32],
     mic: &[i16],
-) -> Result<(usize, usize), u8> {
+) -> Result<(usize, usize), Refusal> {
     let slots = row(receivers)?.slots;
     let frames = input.len() / FRAME;
     if frames * FRAME != input.len() || !(1..=8).contains(&frames) {
-        return Err(LENGTH);
+        return Err(Refusal::Length);
     }
     let samples = 2 * receivers * slots;
     if iq.len() < frames * samples || mic.len() < frames * slots {
-        return Err(SHORT_BUFFER);
+        return Err(Refusal::ShortBuffer);
     }
     Ok((samples, slots))
 }

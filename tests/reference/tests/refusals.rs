@@ -3,6 +3,8 @@
 mod common;
 
 use common::*;
+use reference::Cause::*;
+use reference::Refusal::*;
 use reference::*;
 
 #[derive(Clone, Debug, PartialEq)]
@@ -27,12 +29,12 @@ fn good_radio_call() -> RadioCall {
     }
 }
 
-fn run_radio_read(call: &mut RadioCall) -> Option<u8> {
+fn run_radio_read(call: &mut RadioCall) -> Option<Refusal> {
     let RadioCall { frame, iq, mic, .. } = call;
     radio_read(frame, call.receivers, iq, mic, &mut call.status).err()
 }
 
-fn run_transfer(call: &mut RadioCall) -> Option<u8> {
+fn run_transfer(call: &mut RadioCall) -> Option<Refusal> {
     let RadioCall { frame, iq, mic, .. } = call;
     let got = radio_read_transfer(frame, call.receivers, iq, mic, &mut call.status);
     got.err().map(|stopped| {
@@ -41,7 +43,7 @@ fn run_transfer(call: &mut RadioCall) -> Option<u8> {
     })
 }
 
-fn run_radio_write(call: &mut RadioCall) -> Option<u8> {
+fn run_radio_write(call: &mut RadioCall) -> Option<Refusal> {
     let RadioCall {
         status, iq, mic, ..
     } = call;
@@ -50,18 +52,20 @@ fn run_radio_write(call: &mut RadioCall) -> Option<u8> {
 
 #[test]
 fn radio_read_refuses_in_order() {
-    let faults: [Fault<RadioCall>; 11] = [
-        (7, |c| c.frame[508] = 1),
-        (7, |c| c.frame[511] = 0x80),
-        (6, |c| c.frame[0] = 0x7E),
-        (6, |c| c.frame[1] = 0xFF),
-        (6, |c| c.frame[2] = 0),
-        (4, |c| c.iq.truncate(149)),
-        (4, |c| c.mic.truncate(24)),
-        (3, |c| c.frame.truncate(511)),
-        (3, |c| c.frame.resize(513, 0)),
-        (2, |c| c.receivers = 0),
-        (2, |c| c.receivers = 9),
+    let faults: [Fault<RadioCall>; 13] = [
+        (Padding { byte: 508 }, |c| c.frame[508] = 1),
+        (Padding { byte: 509 }, |c| c.frame[509] = 0xFF),
+        (Padding { byte: 510 }, |c| c.frame[510] = 2),
+        (Padding { byte: 511 }, |c| c.frame[511] = 0x80),
+        (NoSync { byte: 0 }, |c| c.frame[0] = 0x7E),
+        (NoSync { byte: 1 }, |c| c.frame[1] = 0xFF),
+        (NoSync { byte: 2 }, |c| c.frame[2] = 0),
+        (ShortBuffer, |c| c.iq.truncate(149)),
+        (ShortBuffer, |c| c.mic.truncate(24)),
+        (Length, |c| c.frame.truncate(511)),
+        (Length, |c| c.frame.resize(513, 0)),
+        (BadCount, |c| c.receivers = 0),
+        (BadCount, |c| c.receivers = 9),
     ];
     check_every_set(&good_radio_call(), run_radio_read, &faults);
 }
@@ -77,19 +81,21 @@ fn a_transfer_refuses_in_order() {
         mic: one.mic.repeat(2),
         ..one
     };
-    let faults: [Fault<RadioCall>; 12] = [
-        (7, |c| c.frame[508] = 1),
-        (6, |c| c.frame[2] = 0),
-        (4, |c| c.iq.truncate(299)),
-        (4, |c| c.iq.truncate(150)),
-        (4, |c| c.mic.truncate(49)),
-        (4, |c| c.mic.truncate(25)),
-        (3, |c| c.frame.resize(9 * 512, 0)),
-        (3, |c| c.frame.resize(1025, 0)),
-        (3, |c| c.frame.truncate(1023)),
-        (3, |c| c.frame.clear()),
-        (2, |c| c.receivers = 0),
-        (2, |c| c.receivers = 9),
+    let faults: [Fault<RadioCall>; 14] = [
+        (Padding { byte: 508 }, |c| c.frame[508] = 1),
+        (Padding { byte: 511 }, |c| c.frame[511] = 1),
+        (NoSync { byte: 0 }, |c| c.frame[0] = 0),
+        (NoSync { byte: 2 }, |c| c.frame[2] = 0),
+        (ShortBuffer, |c| c.iq.truncate(299)),
+        (ShortBuffer, |c| c.iq.truncate(150)),
+        (ShortBuffer, |c| c.mic.truncate(49)),
+        (ShortBuffer, |c| c.mic.truncate(25)),
+        (Length, |c| c.frame.resize(9 * 512, 0)),
+        (Length, |c| c.frame.resize(1025, 0)),
+        (Length, |c| c.frame.truncate(1023)),
+        (Length, |c| c.frame.clear()),
+        (BadCount, |c| c.receivers = 0),
+        (BadCount, |c| c.receivers = 9),
     ];
     check_every_set(&good, run_transfer, &faults);
 }
@@ -97,18 +103,18 @@ fn a_transfer_refuses_in_order() {
 #[test]
 fn radio_write_refuses_in_order() {
     let faults: [Fault<RadioCall>; 12] = [
-        (9, |c| c.iq[0] = 8_388_608),
-        (9, |c| c.iq[149] = -8_388_609),
-        (9, |c| c.status.versions[0] = 128),
-        (9, |c| c.status.versions[3] = 255),
-        (9, |c| c.word = 5),
-        (9, |c| c.word = usize::MAX),
-        (4, |c| c.iq.truncate(149)),
-        (4, |c| c.mic.truncate(24)),
-        (3, |c| c.frame.truncate(511)),
-        (3, |c| c.frame.resize(513, 0)),
-        (2, |c| c.receivers = 0),
-        (2, |c| c.receivers = 9),
+        (Range, |c| c.iq[0] = 8_388_608),
+        (Range, |c| c.iq[149] = -8_388_609),
+        (Range, |c| c.status.versions[0] = 128),
+        (Range, |c| c.status.versions[3] = 255),
+        (Range, |c| c.word = 5),
+        (Range, |c| c.word = usize::MAX),
+        (ShortBuffer, |c| c.iq.truncate(149)),
+        (ShortBuffer, |c| c.mic.truncate(24)),
+        (Length, |c| c.frame.truncate(511)),
+        (Length, |c| c.frame.resize(513, 0)),
+        (BadCount, |c| c.receivers = 0),
+        (BadCount, |c| c.receivers = 9),
     ];
     for word in 0..=4 {
         let mut good = good_radio_call();
@@ -125,7 +131,7 @@ fn radio_read_refuses_every_padding_byte() {
             frame[place] = 1;
             let (mut iq, mut mic, mut status) = ([3; 200], [3; 100], Status::fresh());
             let answer = radio_read(&frame, receivers, &mut iq, &mut mic, &mut status);
-            assert_eq!(answer, Err(7));
+            assert_eq!(answer, Err(Padding { byte: place }));
             assert_eq!((iq, mic), ([3; 200], [3; 100]));
         }
     }
@@ -173,12 +179,16 @@ fn good_host_call(control: [u8; 5], turn: u8) -> HostCall {
     }
 }
 
-fn run_host_read(call: &mut HostCall) -> Option<u8> {
+fn run_host_read(call: &mut HostCall) -> Option<Refusal> {
     host_read(&call.frame, &mut call.audio, &mut call.builder.host).err()
 }
 
-fn run_build(call: &mut HostCall) -> Option<u8> {
+fn run_build(call: &mut HostCall) -> Option<Refusal> {
     build(&mut call.builder, &call.audio, &mut call.frame).err()
+}
+
+fn reserved(cause: Cause) -> Refusal {
+    Reserved { cause }
 }
 
 type ReservedCase = ([u8; 5], [Fault<HostCall>; 2]);
@@ -188,24 +198,33 @@ fn host_read_refuses_in_order() {
     let words: [ReservedCase; 3] = [
         (
             [0x01, 0xF3, 0xFF, 0xFF, 0xFC],
-            [(8, |c| c.frame[4] = 0x0C), (8, |c| c.frame[7] = 0x03)],
+            [
+                (reserved(Source10), |c| c.frame[4] = 0x0C),
+                (reserved(Relay), |c| c.frame[7] = 0x03),
+            ],
         ),
         (
             [0x13, 0xFF, 0xFF, 0xFF, 0x7F],
-            [(8, |c| c.frame[7] |= 0x80), (8, |c| c.frame[7] = 0x80)],
+            [
+                (reserved(Word9C4Bit7), |c| c.frame[7] |= 0x80),
+                (reserved(Word9C4Bit7), |c| c.frame[7] = 0x80),
+            ],
         ),
         (
             [0x15, 0x7F, 0xFF, 0xFF, 0xFF],
-            [(8, |c| c.frame[4] |= 0x80), (8, |c| c.frame[4] = 0x80)],
+            [
+                (reserved(Word10C1Bit7), |c| c.frame[4] |= 0x80),
+                (reserved(Word10C1Bit7), |c| c.frame[4] = 0x80),
+            ],
         ),
     ];
     let others: [Fault<HostCall>; 6] = [
-        (6, |c| c.frame[0] = 0x7E),
-        (6, |c| c.frame[1] = 0xFF),
-        (6, |c| c.frame[2] = 0),
-        (4, |c| c.audio.truncate(251)),
-        (3, |c| c.frame.truncate(511)),
-        (3, |c| c.frame.resize(513, 0)),
+        (NoSync { byte: 0 }, |c| c.frame[0] = 0x7E),
+        (NoSync { byte: 1 }, |c| c.frame[1] = 0xFF),
+        (NoSync { byte: 2 }, |c| c.frame[2] = 0),
+        (ShortBuffer, |c| c.audio.truncate(251)),
+        (Length, |c| c.frame.truncate(511)),
+        (Length, |c| c.frame.resize(513, 0)),
     ];
     for (control, reserved) in words {
         let faults = [&reserved[..], &others].concat();
@@ -220,22 +239,26 @@ fn unassigned_codes_are_refused_in_their_own_word_only() {
         assert_eq!(run_host_read(&mut good_host_call(control, 0)), None);
     }
     for code in 0..=3 {
-        let refusal = (code == 3).then_some(8);
-        let source = [0, code << 2, 0, 0, 0];
-        assert_eq!(run_host_read(&mut good_host_call(source, 0)), refusal);
-        let relay = [0, 0, 0, 0, code];
-        assert_eq!(run_host_read(&mut good_host_call(relay, 0)), refusal);
+        let refusal = |cause| (code == 3).then_some(reserved(cause));
+        let source = run_host_read(&mut good_host_call([0, code << 2, 0, 0, 0], 0));
+        assert_eq!(source, refusal(Source10));
+        let relay = run_host_read(&mut good_host_call([0, 0, 0, 0, code], 0));
+        assert_eq!(relay, refusal(Relay));
     }
 }
 
 #[test]
 fn a_bit_alone_is_refused_only_in_word_9_c4_and_word_10_c1() {
-    let reserved = [[0x12, 0, 0, 0, 0x80], [0x14, 0x80, 0, 0, 0]];
+    let cause = |control: [u8; 5]| match control {
+        [0x12, 0, 0, 0, 0x80] => Some(Word9C4Bit7),
+        [0x14, 0x80, 0, 0, 0] => Some(Word10C1Bit7),
+        _ => None,
+    };
     for address in 0..=127 {
         for bit in 0..32 {
             let [c1, c2, c3, c4] = (1_u32 << bit).to_be_bytes();
             let control = [address << 1, c1, c2, c3, c4];
-            let refusal = reserved.contains(&control).then_some(8);
+            let refusal = cause(control).map(reserved);
             let answer = run_host_read(&mut good_host_call(control, 0));
             assert_eq!(answer, refusal, "{control:02X?}");
         }
@@ -245,16 +268,16 @@ fn a_bit_alone_is_refused_only_in_word_9_c4_and_word_10_c1() {
 #[test]
 fn build_refuses_in_order() {
     let faults: [Fault<HostCall>; 10] = [
-        (9, |c| c.builder.host.outputs = 128),
-        (9, |c| c.builder.host.receivers = 0),
-        (9, |c| c.builder.host.receivers = 9),
-        (9, |c| c.builder.host.line_in_gain = 32),
-        (9, |c| c.builder.host.word10_c2_top = 8),
-        (4, |c| c.audio.truncate(251)),
-        (3, |c| c.frame.truncate(511)),
-        (3, |c| c.frame.resize(513, 0)),
-        (1, |c| c.builder.turn = 11),
-        (1, |c| c.builder.turn = 255),
+        (Range, |c| c.builder.host.outputs = 128),
+        (Range, |c| c.builder.host.receivers = 0),
+        (Range, |c| c.builder.host.receivers = 9),
+        (Range, |c| c.builder.host.line_in_gain = 32),
+        (Range, |c| c.builder.host.word10_c2_top = 8),
+        (ShortBuffer, |c| c.audio.truncate(251)),
+        (Length, |c| c.frame.truncate(511)),
+        (Length, |c| c.frame.resize(513, 0)),
+        (BadState, |c| c.builder.turn = 11),
+        (BadState, |c| c.builder.turn = 255),
     ];
     for turn in 0..=10 {
         check_every_set(&good_host_call([0; 5], turn), run_build, &faults);
@@ -265,10 +288,10 @@ fn build_refuses_in_order() {
 fn build_takes_gains_to_31_and_top_bits_to_7_at_every_turn() {
     let cases = [
         (31, 7, None),
-        (32, 7, Some(9)),
-        (31, 8, Some(9)),
-        (255, 0, Some(9)),
-        (0, 255, Some(9)),
+        (32, 7, Some(Range)),
+        (31, 8, Some(Range)),
+        (255, 0, Some(Range)),
+        (0, 255, Some(Range)),
     ];
     for turn in 0..=10 {
         for (gain, top, refusal) in cases {
@@ -284,17 +307,17 @@ fn build_takes_gains_to_31_and_top_bits_to_7_at_every_turn() {
 #[test]
 fn build_refuses_codes_that_name_no_choice() {
     let faults: [Fault<HostCall>; 11] = [
-        (9, |c| c.builder.host.speed = 4),
-        (9, |c| c.builder.host.source122 = 2),
-        (9, |c| c.builder.host.boards = 4),
-        (9, |c| c.builder.host.microphone = 2),
-        (9, |c| c.builder.host.attenuator = 4),
-        (9, |c| c.builder.host.antenna = 4),
-        (9, |c| c.builder.host.orion_jack = 2),
-        (8, |c| c.builder.host.source10 = 3),
-        (8, |c| c.builder.host.relay = 3),
-        (4, |c| c.audio.truncate(251)),
-        (1, |c| c.builder.turn = 11),
+        (Range, |c| c.builder.host.speed = 4),
+        (Range, |c| c.builder.host.source122 = 2),
+        (Range, |c| c.builder.host.boards = 4),
+        (Range, |c| c.builder.host.microphone = 2),
+        (Range, |c| c.builder.host.attenuator = 4),
+        (Range, |c| c.builder.host.antenna = 4),
+        (Range, |c| c.builder.host.orion_jack = 2),
+        (reserved(Source10), |c| c.builder.host.source10 = 3),
+        (reserved(Relay), |c| c.builder.host.relay = 3),
+        (ShortBuffer, |c| c.audio.truncate(251)),
+        (BadState, |c| c.builder.turn = 11),
     ];
     for turn in [0, 9, 10] {
         check_every_set(&good_host_call([0; 5], turn), run_build, &faults);
@@ -319,24 +342,24 @@ fn good_stream_call() -> StreamCall {
     }
 }
 
-fn run_feed(call: &mut StreamCall) -> Option<u8> {
+fn run_feed(call: &mut StreamCall) -> Option<Refusal> {
     call.stream.feed(&call.piece, &mut call.output).err()
 }
 
 #[test]
 fn feed_refuses_in_order() {
     let faults: [Fault<StreamCall>; 8] = [
-        (5, |c| {
+        (StreamFull, |c| {
             c.stream.skipped += (1 << 48) - 4095 - c.stream.total;
             c.stream.total = (1 << 48) - 4095;
         }),
-        (4, |c| c.output.truncate(4095)),
-        (3, |c| c.piece.push(0)),
-        (1, |c| c.stream.total += 1),
-        (1, |c| c.stream.frames = 1 << 55),
-        (1, |c| c.stream.skipped = u64::MAX),
-        (1, |c| c.stream.count = 515),
-        (1, |c| c.stream.count = usize::MAX),
+        (ShortBuffer, |c| c.output.truncate(4095)),
+        (Length, |c| c.piece.push(0)),
+        (BadState, |c| c.stream.total += 1),
+        (BadState, |c| c.stream.frames = 1 << 55),
+        (BadState, |c| c.stream.skipped = u64::MAX),
+        (BadState, |c| c.stream.count = 515),
+        (BadState, |c| c.stream.count = usize::MAX),
     ];
     check_every_set(&good_stream_call(), run_feed, &faults);
 }
@@ -349,7 +372,7 @@ fn feed_refuses_a_cell_past_the_held_bytes() {
         call.stream.held = [0; 514];
         call.stream.held[cell] = 1;
         let before = call.clone();
-        assert_eq!(run_feed(&mut call), Some(1));
+        assert_eq!(run_feed(&mut call), Some(BadState));
         assert_eq!(call, before);
     }
 }

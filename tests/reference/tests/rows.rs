@@ -70,7 +70,8 @@ fn row_h_three_receivers_duplex() {
 fn row_i_unassigned_relay() {
     let (mut host, mut audio) = (Host::fresh(), [5; 252]);
     let answer = host_read(&frame([0, 0, 0, 0, 0x17]), &mut audio, &mut host);
-    assert_eq!(answer, Err(8));
+    let cause = Cause::Relay;
+    assert_eq!(answer, Err(Refusal::Reserved { cause }));
     assert_eq!((host, audio), (Host::fresh(), [5; 252]));
 }
 
@@ -123,11 +124,11 @@ fn run_counts_zero_and_nine_are_refused() {
     let (mut iq, mut mic, mut frame) = ([0; 200], [0; 100], frame([0; 5]));
     let mut status = Status::fresh();
     for receivers in [0, 9, usize::MAX] {
-        assert_eq!(row(receivers), Err(2));
+        assert_eq!(row(receivers), Err(Refusal::BadCount));
         let read = radio_read(&frame, receivers, &mut iq, &mut mic, &mut status);
-        assert_eq!(read, Err(2));
+        assert_eq!(read, Err(Refusal::BadCount));
         let written = radio_write(&status, 0, receivers, &iq, &mic, &mut frame);
-        assert_eq!(written, Err(2));
+        assert_eq!(written, Err(Refusal::BadCount));
     }
 }
 
@@ -140,11 +141,13 @@ fn run_511_and_513_bytes_are_refused() {
         let mut bytes = frame([0; 5]).to_vec();
         bytes.resize(length, 0);
         let read = radio_read(&bytes, 1, &mut iq, &mut mic, &mut status);
-        assert_eq!(read, Err(3));
-        assert_eq!(host_read(&bytes, &mut audio, &mut host), Err(3));
+        assert_eq!(read, Err(Refusal::Length));
+        let heard = host_read(&bytes, &mut audio, &mut host);
+        assert_eq!(heard, Err(Refusal::Length));
         let written = radio_write(&status, 0, 1, &iq, &mic, &mut bytes);
-        assert_eq!(written, Err(3));
-        assert_eq!(build(&mut builder, &audio, &mut bytes), Err(3));
+        assert_eq!(written, Err(Refusal::Length));
+        let built = build(&mut builder, &audio, &mut bytes);
+        assert_eq!(built, Err(Refusal::Length));
     }
 }
 
@@ -161,7 +164,8 @@ fn run_pieces_of_0_and_4096_are_accepted() {
 #[test]
 fn run_a_piece_of_4097_is_refused() {
     let mut stream = Stream::fresh();
-    assert_eq!(stream.feed(&[0; 4097], &mut [0; MOST]), Err(3));
+    let refused = stream.feed(&[0; 4097], &mut [0; MOST]);
+    assert_eq!(refused, Err(Refusal::Length));
     assert_eq!(stream, Stream::fresh());
 }
 

@@ -139,12 +139,14 @@ fn reading_goes_on_from_every_sound_record() {
 fn the_total_may_reach_2_to_the_48_and_not_pass_it() {
     let mut stream = record_holding(&[], 0, (1 << 48) - 10);
     let before = stream;
-    assert_eq!(stream.feed(&[1; 11], &mut [0; MOST]), Err(5));
+    let refused = stream.feed(&[1; 11], &mut [0; MOST]);
+    assert_eq!(refused, Err(Refusal::StreamFull));
     assert_eq!(stream, before);
     assert_eq!(stream.feed(&[1; 10], &mut [0; MOST]), Ok(0));
     assert_eq!((stream.total, stream.count), (1 << 48, 10));
     assert_eq!(stream.feed(&[], &mut [0; MOST]), Ok(0));
-    assert_eq!(stream.feed(&[1], &mut [0; MOST]), Err(5));
+    let refused = stream.feed(&[1], &mut [0; MOST]);
+    assert_eq!(refused, Err(Refusal::StreamFull));
     let passed = Stream {
         skipped: (1 << 48) + 1,
         total: (1 << 48) + 1,

@@ -71,7 +71,7 @@ fn stops_at_every_frame() {
     for frames in 0..8 {
         let mut call = eight_frames();
         call.input[512 * frames + 1] = 0;
-        let refusal = 6;
+        let refusal = Refusal::NoSync { byte: 1 };
         assert_eq!(call.run(), Err(Stopped { refusal, frames }));
         call.check(frames);
     }
@@ -89,7 +89,7 @@ fn the_first_refused_frame_is_the_answer() {
     input[3 * 512] = 0;
     let mut status = Status::fresh();
     let got = radio_read_transfer(&input, 3, &mut [0; 600], &mut [0; 100], &mut status);
-    let (refusal, frames) = (7, 2);
+    let (refusal, frames) = (Refusal::Padding { byte: 508 }, 2);
     assert_eq!(got, Err(Stopped { refusal, frames }));
     assert_eq!(status.ain5, 2);
 }
@@ -120,7 +120,7 @@ fn lengths() {
         if length % 512 == 0 && (1..=8).contains(&frames) {
             assert_eq!(call.run(), Ok(frames));
         } else {
-            let (refusal, frames) = (3, 0);
+            let (refusal, frames) = (Refusal::Length, 0);
             assert_eq!(call.run(), Err(Stopped { refusal, frames }));
             call.check(0);
         }

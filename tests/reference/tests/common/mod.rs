@@ -1,7 +1,7 @@
 //! What several test files share.
 #![allow(dead_code)]
 
-use reference::{host_read, radio_read, Host, Status, Stream, MOST};
+use reference::{host_read, radio_read, Host, Refusal, Status, Stream, MOST};
 use std::fmt::Debug;
 
 pub const SYNC: [u8; 3] = [0x7F, 0x7F, 0x7F];
@@ -27,7 +27,7 @@ pub fn frame(control: [u8; 5]) -> [u8; 512] {
 }
 
 /// Reads a one-receiver frame into `status`; gives the answer.
-pub fn read_radio_into(status: &mut Status, frame: &[u8]) -> Result<u8, u8> {
+pub fn read_radio_into(status: &mut Status, frame: &[u8]) -> Result<u8, Refusal> {
     radio_read(frame, 1, &mut [0; 126], &mut [0; 63], status)
 }
 
@@ -39,7 +39,7 @@ pub fn radio_word(control: [u8; 5]) -> (Status, u8) {
 }
 
 /// Reads a host frame into `host`; gives the answer.
-pub fn read_host_into(host: &mut Host, frame: &[u8]) -> Result<u8, u8> {
+pub fn read_host_into(host: &mut Host, frame: &[u8]) -> Result<u8, Refusal> {
     host_read(frame, &mut [0; 252], host)
 }
 
@@ -153,12 +153,12 @@ pub fn feed_in_pieces(stream: &mut Stream, bytes: &[u8], size: usize) -> Vec<u8>
     frames
 }
 
-/// A refusal's number and a change to a good call that brings it about.
-pub type Fault<C> = (u8, fn(&mut C));
+/// A refusal and a change to a good call that brings it about.
+pub type Fault<C> = (Refusal, fn(&mut C));
 
 /// Tries every set of the faults on a good call, applied in the order listed:
-/// the least number is the answer and the call is left as it was.
-pub fn check_every_set<C>(good: &C, run: fn(&mut C) -> Option<u8>, faults: &[Fault<C>])
+/// the least refusal is the answer and the call is left as it was.
+pub fn check_every_set<C>(good: &C, run: fn(&mut C) -> Option<Refusal>, faults: &[Fault<C>])
 where
     C: Clone + PartialEq + Debug,
 {
