@@ -1,6 +1,7 @@
 //! How a case is made: a valid call of one kind, and then none, one or two of the twists of its kind.
 
 use crate::both::Both;
+use crate::flaw::Flaw;
 use crate::lent::{Guards, Left};
 use crate::random::Random;
 
@@ -43,6 +44,16 @@ pub trait Case: Sized + 'static {
 
     /// Makes the call on both sides.
     fn compare(self, guards: &Guards) -> Outcome;
+
+    /// What is wrong with the frame for which the call is refused.
+    fn flaw(&self) -> Option<Flaw> {
+        None
+    }
+
+    /// The flaws that must come.
+    fn flaws() -> Vec<Flaw> {
+        Vec::new()
+    }
 }
 
 /// What the library returned, or how the two sides differ.

@@ -5,6 +5,7 @@ use crate::case::{outcome, Call, Case, Draw, Outcome, Part, Twist};
 use crate::cells::{
     self, BUILDER_MOST, HOST, HOST_MOST, LINE_IN_GAIN, OUTPUTS, RECEIVERS, TURN, WORD10_C2_TOP,
 };
+use crate::flaw::Flaw;
 use crate::lent::Guards;
 use crate::twist::{
     cell_count, cell_value, damage, damage_sync, frame_length, slice_length, valid_cells,
@@ -42,17 +43,20 @@ const TURNS: [u32; 20] = [
     u32::MAX,
 ];
 
-/// Sets each unassigned code and bit of words 0, 9 and 10. In its own word it is refused, in others it
-/// is assigned or part of a number.
-const RESERVE: [fn(&mut [u8]); 5] = [
-    |control| control[1] |= 0b1100,
-    |control| control[4] |= 0b11,
-    |control| {
+/// A word, and a change to C0 to C4 for which it is refused.
+type Reserve = (usize, fn(&mut [u8]));
+
+/// Sets each unassigned code and bit of words 0, 9 and 10, and both of word 0. In its own word it is
+/// refused, in others it is assigned or part of a number.
+const RESERVE: [Reserve; 5] = [
+    (0, |control| control[1] |= 0b1100),
+    (0, |control| control[4] |= 0b11),
+    (0, |control| {
         control[1] |= 0b1100;
         control[4] |= 0b11
-    },
-    |control| control[4] |= 0x80,
-    |control| control[1] |= 0x80,
+    }),
+    (9, |control| control[4] |= 0x80),
+    (10, |control| control[1] |= 0x80),
 ];
 
 /// The cells of a builder that hold more than a frame does, and what a frame holds of them.
@@ -94,17 +98,16 @@ pub struct Read {
 impl Read {
     /// Each of the unassigned codes in each of words 0 to 11, most often where it is refused.
     fn set_reserved(&mut self, draw: &mut Draw) {
-        let address = draw.random.pick(&[0, 9, 10, draw.turn % (WORDS + 1)]);
+        let (own, set) = draw.in_turn(&RESERVE);
+        let any = draw.random.below(WORDS + 1);
+        let address = draw.random.pick(&[own, own, any]);
         self.frame = frame(address, draw);
-        RESERVE[draw.turn % RESERVE.len()](&mut self.frame[CONTROL..]);
+        set(&mut self.frame[CONTROL..]);
     }
 
-    /// Whether word 10's C1 bit 7 is set, and nothing else is wrong.
-    fn only_reserves_in_word_10(&self) -> bool {
-        matches!(self.frame[..], [0x7f, 0x7f, 0x7f, 20 | 21, 0x80..=0xff, ..])
-            && self.frame.len() == FRAME
-            && self.audio.len() >= AUDIO
-            && cells::host(&self.host).is_some()
+    /// Whether nothing is wrong before the frame is looked at.
+    fn comes_to_frame(&self) -> bool {
+        self.frame.len() == FRAME && self.audio.len() >= AUDIO && cells::host(&self.host).is_some()
     }
 }
 
@@ -122,13 +125,6 @@ impl Case for Read {
         |case, draw| cell_value(&mut case.host, HOST_MOST, draw),
         |case, draw| cell_count(&mut case.host, HOST, draw),
     ];
-    const PARTS: &'static [Part<Self>] = &[Part {
-        line: Call {
-            name: "- word 10's C1 bit 7",
-            answers: &[8],
-        },
-        holds: Read::only_reserves_in_word_10,
-    }];
 
     fn valid(draw: &mut Draw) -> Self {
         let any = draw.random.below(128);
@@ -147,6 +143,15 @@ impl Case for Read {
         let mut host = guards.lend("host", &self.host);
         let both = both::host_read(&mut frame, &mut audio, &mut host);
         outcome(both, &[&frame, &audio, &host])
+    }
+
+    fn flaw(&self) -> Option<Flaw> {
+        let flaw = || Flaw::of_host(&self.frame);
+        self.comes_to_frame().then(flaw).flatten()
+    }
+
+    fn flaws() -> Vec<Flaw> {
+        Flaw::every_of_host()
     }
 }
 

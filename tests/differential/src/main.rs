@@ -2,6 +2,7 @@
 //! inputs, and every cell that was lent is compared after each, whether it worked or was refused.
 
 mod case;
+mod flaw;
 mod host;
 mod options;
 mod plain;
@@ -14,7 +15,8 @@ mod twist;
 mod whole;
 
 use case::{made, Call, Case, Draw, Part};
-use differential::{both, cells, lent, random};
+use differential::{both, cells, lent, model, random};
+use flaw::Flaw;
 use lent::Guards;
 use options::{Options, USAGE};
 use plain::{Builder, Fresh, Host, Layout, Status, StreamFresh};
@@ -43,9 +45,14 @@ fn lines<C: Case>(chosen: impl Fn(&Part<C>) -> bool) -> Vec<Call> {
 fn single<C: Case>(run: Run) -> Result<(), Differs> {
     let case = made::<C>(run.number, run.random);
     let lines = lines::<C>(|part| (part.holds)(&case));
-    let outcome = case.compare(&run.guards);
-    let returned = outcome.map_err(|difference| (C::CALL.name, difference))?;
+    let flaw = case.flaw();
+    let differs = |difference| (C::CALL.name, difference);
+    let returned = case.compare(&run.guards).map_err(differs)?;
+    Flaw::check(flaw, returned).map_err(differs)?;
     run.tally.count(&lines, returned);
+    if let Some(flaw) = flaw {
+        run.tally.count_flaw(C::CALL.name, flaw);
+    }
     Ok(())
 }
 
@@ -67,6 +74,7 @@ fn whole(run: Run) -> Result<(), Differs> {
 struct Kind {
     run: fn(Run) -> Result<(), Differs>,
     lines: fn() -> Vec<Call>,
+    flaws: fn() -> Vec<(&'static str, Flaw)>,
     /// How many cases of this kind stand in one round.
     share: usize,
 }
@@ -75,6 +83,12 @@ const fn kind<C: Case>(share: usize) -> Kind {
     Kind {
         run: single::<C>,
         lines: || lines::<C>(|_| true),
+        flaws: || {
+            C::flaws()
+                .into_iter()
+                .map(|flaw| (C::CALL.name, flaw))
+                .collect()
+        },
         share,
     }
 }
@@ -132,7 +146,9 @@ fn main() -> ExitCode {
         eprintln!("{USAGE}");
         return ExitCode::from(2);
     };
-    let mut tally = Tally::of(KINDS.iter().flat_map(|kind| (kind.lines)()));
+    let lines = KINDS.iter().flat_map(|kind| (kind.lines)());
+    let flaws = KINDS.iter().flat_map(|kind| (kind.flaws)());
+    let mut tally = Tally::of(lines, flaws);
     let mut cases = options.case.map_or(0..usize::MAX, |case| case..case + 1);
     while let Some(case) = cases.next().filter(|_| tally.calls < options.calls) {
         if let Err((call, difference)) = run(case, &options, &mut tally) {

@@ -1,43 +1,87 @@
 //! Every call of the header, done by the reference: cells in, the reference's work, cells out.
 
 use crate::cells;
-use reference::{Builder, Host, Status, Stopped, Stream};
+use reference::{Builder, Cause, Host, Refusal, Status, Stopped, Stream};
 
 /// What was found, or the refusal.
-pub type Answer = Result<u32, u8>;
+pub type Answer = Result<u32, Refusal>;
 
-const BAD_STATE: u8 = 1;
+/// The parts of what the door returns.
+#[derive(Default)]
+pub struct Parts {
+    /// Bits 7 to 0: the refusal's number, or 0.
+    pub answer: u32,
+    /// Bits 15 to 8: what was found.
+    pub found: u32,
+    /// Bits 31 to 16: the place of a refusal that says one.
+    pub place: u32,
+}
 
-/// An answer as the door returns it: the refusal or 0, and what was found above bit 7.
+impl Parts {
+    pub fn of(returned: u32) -> Parts {
+        Parts {
+            answer: returned & 0xff,
+            found: returned >> 8 & 0xff,
+            place: returned >> 16,
+        }
+    }
+
+    pub fn returned(self) -> u32 {
+        self.place << 16 | self.found << 8 | self.answer
+    }
+}
+
+/// An answer as the door returns it.
 pub fn returned(answer: Answer) -> u32 {
-    match answer {
-        Ok(found) => found << 8,
-        Err(refusal) => refusal.into(),
+    let parts = match answer {
+        Ok(found) => Parts {
+            found,
+            ..Parts::default()
+        },
+        Err(refusal) => Parts {
+            answer: refusal.number().into(),
+            place: place(refusal),
+            ..Parts::default()
+        },
+    };
+    parts.returned()
+}
+
+fn place(refusal: Refusal) -> u32 {
+    match refusal {
+        Refusal::NoSync { byte } | Refusal::Padding { byte } => byte as u32,
+        Refusal::Reserved { cause } => match cause {
+            Cause::Source10 => 1,
+            Cause::Relay => 2,
+            Cause::Word9C4Bit7 => 3,
+            Cause::Word10C1Bit7 => 4,
+        },
+        _ => 0,
     }
 }
 
 pub fn layout(receivers: usize, row: &mut [u32]) -> Answer {
-    let row = row.get_mut(..cells::ROW).ok_or(BAD_STATE)?;
+    let row = row.get_mut(..cells::ROW).ok_or(Refusal::BadState)?;
     cells::row_into(&reference::row(receivers)?, row);
     Ok(0)
 }
 
 pub fn status_fresh(status: &mut [u32]) -> Answer {
     let length = cells::STATUS_MOST.len();
-    let status = status.get_mut(..length).ok_or(BAD_STATE)?;
+    let status = status.get_mut(..length).ok_or(Refusal::BadState)?;
     cells::status_into(&Status::fresh(), status);
     Ok(0)
 }
 
 pub fn host_fresh(host: &mut [u32]) -> Answer {
-    let host = host.get_mut(..cells::HOST).ok_or(BAD_STATE)?;
+    let host = host.get_mut(..cells::HOST).ok_or(Refusal::BadState)?;
     cells::host_into(&Host::fresh(), host);
     Ok(0)
 }
 
 pub fn builder_fresh(builder: &mut [u32]) -> Answer {
     let length = cells::BUILDER_MOST.len();
-    let builder = builder.get_mut(..length).ok_or(BAD_STATE)?;
+    let builder = builder.get_mut(..length).ok_or(Refusal::BadState)?;
     let (host, turn) = (Host::fresh(), 0);
     cells::builder_into(&Builder { host, turn }, builder);
     Ok(0)
@@ -50,7 +94,7 @@ pub fn radio_read(
     mic: &mut [i16],
     status: &mut [u32],
 ) -> Answer {
-    let mut record = cells::status(status).ok_or(BAD_STATE)?;
+    let mut record = cells::status(status).ok_or(Refusal::BadState)?;
     let address = reference::radio_read(frame, receivers, iq, mic, &mut record)?;
     cells::status_into(&record, status);
     Ok(address.into())
@@ -65,13 +109,13 @@ pub fn radio_read_transfer(
     status: &mut [u32],
 ) -> u32 {
     let Some(mut record) = cells::status(status) else {
-        return BAD_STATE.into();
+        return returned(Err(Refusal::BadState));
     };
     let got = reference::radio_read_transfer(input, receivers, iq, mic, &mut record);
     cells::status_into(&record, status);
     match got {
         Ok(frames) => returned(Ok(frames as u32)),
-        Err(Stopped { refusal, frames }) => returned(Ok(frames as u32)) | u32::from(refusal),
+        Err(Stopped { refusal, frames }) => returned(Ok(frames as u32)) | returned(Err(refusal)),
     }
 }
 
@@ -83,39 +127,39 @@ pub fn radio_write(
     mic: &[i16],
     frame: &mut [u8],
 ) -> Answer {
-    let record = cells::status(status).ok_or(BAD_STATE)?;
+    let record = cells::status(status).ok_or(Refusal::BadState)?;
     reference::radio_write(&record, word, receivers, iq, mic, frame)?;
     Ok(0)
 }
 
 pub fn host_read(frame: &[u8], audio: &mut [i16], host: &mut [u32]) -> Answer {
-    let mut record = cells::host(host).ok_or(BAD_STATE)?;
+    let mut record = cells::host(host).ok_or(Refusal::BadState)?;
     let address = reference::host_read(frame, audio, &mut record)?;
     cells::host_into(&record, host);
     Ok(address.into())
 }
 
 pub fn build(builder: &mut [u32], audio: &[i16], frame: &mut [u8]) -> Answer {
-    let mut record = cells::builder(builder).ok_or(BAD_STATE)?;
+    let mut record = cells::builder(builder).ok_or(Refusal::BadState)?;
     reference::build(&mut record, audio, frame)?;
     cells::builder_into(&record, builder);
     Ok(0)
 }
 
 pub fn stream_fresh(counts: &mut [u64], held: &mut [u8]) -> Answer {
-    let counts = counts.get_mut(..cells::COUNTS).ok_or(BAD_STATE)?;
-    let held = held.get_mut(..cells::HELD).ok_or(BAD_STATE)?;
+    let counts = counts.get_mut(..cells::COUNTS).ok_or(Refusal::BadState)?;
+    let held = held.get_mut(..cells::HELD).ok_or(Refusal::BadState)?;
     cells::stream_into(&Stream::fresh(), counts, held);
     Ok(0)
 }
 
 pub fn stream_sound(counts: &[u64], held: &[u8]) -> Answer {
-    let record = cells::stream(counts, held).ok_or(BAD_STATE)?;
-    record.sound().then_some(0).ok_or(BAD_STATE)
+    let record = cells::stream(counts, held).ok_or(Refusal::BadState)?;
+    record.sound().then_some(0).ok_or(Refusal::BadState)
 }
 
 pub fn stream_feed(counts: &mut [u64], held: &mut [u8], piece: &[u8], output: &mut [u8]) -> Answer {
-    let mut record = cells::stream(counts, held).ok_or(BAD_STATE)?;
+    let mut record = cells::stream(counts, held).ok_or(Refusal::BadState)?;
     let frames = record.feed(piece, output)?;
     cells::stream_into(&record, counts, held);
     Ok(frames as u32)

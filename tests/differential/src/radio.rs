@@ -2,16 +2,14 @@
 
 use crate::both;
 use crate::case::{outcome, Call, Case, Draw, Outcome, Twist};
-use crate::cells::{STATUS_MOST, VERSIONS};
+use crate::cells::{self, STATUS_MOST, VERSIONS};
+use crate::flaw::Flaw;
 use crate::lent::Guards;
 use crate::twist::{
     cell_count, cell_value, damage, damage_sync, frame_length, slice_length, valid_cells,
     valid_numbers, FRAME, STRANGE_COUNTS, SYNC,
 };
 use reference::row;
-
-/// The receiver counts whose frames have padding.
-pub const PADDED: [usize; 6] = [3, 4, 5, 6, 7, 8];
 
 /// Samples at and around both ends of 24 bits, and some that are in range only when cut.
 const EDGES: [i32; 12] = [
@@ -55,12 +53,30 @@ pub fn frame(receivers: usize, draw: &mut Draw) -> Vec<u8> {
     frame
 }
 
-/// Each padding byte of a frame in its turn, for a count that has some.
-pub fn damage_padding(frame: &mut [u8], receivers: usize, draw: &mut Draw) {
-    let padding = row(receivers).map_or(0, |row| row.padding);
-    let place = FRAME - 1 - draw.turn / PADDED.len() % padding;
+fn padding(receivers: usize) -> usize {
+    row(receivers).map_or(0, |row| row.padding)
+}
+
+/// The padding bytes of all layouts, each after its receiver count.
+pub fn padding_bytes() -> Vec<(usize, usize)> {
+    let of = |receivers| {
+        let bytes = FRAME - padding(receivers)..FRAME;
+        bytes.map(move |byte| (receivers, byte))
+    };
+    (1..=8).flat_map(of).collect()
+}
+
+/// Another padding byte: one behind, or before the last, which has none behind it.
+pub fn other_padding_byte((receivers, byte): (usize, usize), draw: &mut Draw) -> usize {
+    match FRAME - 1 - byte {
+        0 => byte - 1 - draw.random.below(padding(receivers) - 1),
+        behind => byte + 1 + draw.random.below(behind),
+    }
+}
+
+pub fn damage_padding(byte: &mut u8, draw: &mut Draw) {
     let any = 1 + draw.random.below(255) as u8;
-    frame[place] = draw.random.pick(&[1, 0x80, any]);
+    *byte = draw.random.pick(&[1, 0x80, any]);
 }
 
 pub struct Read {
@@ -84,8 +100,24 @@ impl Read {
 
     /// Each padding byte of each layout that has some.
     fn damage_padding(&mut self, draw: &mut Draw) {
-        *self = Read::of(draw.in_turn(&PADDED), draw);
-        damage_padding(&mut self.frame, self.receivers, draw);
+        let (receivers, byte) = draw.in_turn(&padding_bytes());
+        *self = Read::of(receivers, draw);
+        damage_padding(&mut self.frame[byte], draw);
+    }
+
+    fn damage_padding_twice(&mut self, draw: &mut Draw) {
+        self.damage_padding(draw);
+        let other = other_padding_byte(draw.in_turn(&padding_bytes()), draw);
+        damage_padding(&mut self.frame[other], draw);
+    }
+
+    /// Whether nothing is wrong before the frame is looked at.
+    fn comes_to_frame(&self) -> bool {
+        row(self.receivers).is_ok()
+            && self.frame.len() == FRAME
+            && self.iq.len() >= samples(self.receivers)
+            && self.mic.len() >= slots(self.receivers)
+            && cells::status(&self.status).is_some()
     }
 }
 
@@ -96,6 +128,7 @@ impl Case for Read {
     };
     const TWISTS: &'static [Twist<Self>] = &[
         Read::damage_padding,
+        Read::damage_padding_twice,
         |case, draw| damage(&mut case.frame, draw),
         |case, draw| damage_sync(&mut case.frame, draw),
         |case, draw| frame_length(&mut case.frame, draw),
@@ -117,6 +150,15 @@ impl Case for Read {
         let mut status = guards.lend("status", &self.status);
         let both = both::radio_read(&mut frame, self.receivers, &mut iq, &mut mic, &mut status);
         outcome(both, &[&frame, &iq, &mic, &status])
+    }
+
+    fn flaw(&self) -> Option<Flaw> {
+        let flaw = || Flaw::of_radio(&self.frame, self.receivers);
+        self.comes_to_frame().then(flaw).flatten()
+    }
+
+    fn flaws() -> Vec<Flaw> {
+        Flaw::every_of_radio()
     }
 }
 

@@ -1,6 +1,8 @@
-//! How many calls were made, and how many of each answer came.
+//! How many calls were made, how many of each answer came, and of each place that a refusal says.
 
 use crate::case::Call;
+use crate::flaw::Flaw;
+use std::collections::BTreeMap;
 use std::fmt;
 
 const ANSWERS: usize = 10;
@@ -13,6 +15,8 @@ struct Line {
 #[derive(Default)]
 pub struct Tally {
     lines: Vec<Line>,
+    /// How often a call was refused for each flaw.
+    flaws: BTreeMap<(&'static str, Flaw), u64>,
     pub calls: u64,
     pub wholes: u64,
     /// Of those, how many demand 3 spoke of.
@@ -20,8 +24,15 @@ pub struct Tally {
 }
 
 impl Tally {
-    pub fn of(calls: impl Iterator<Item = Call>) -> Tally {
-        let mut tally = Tally::default();
+    /// The calls and parts, and the flaws that must come in a call.
+    pub fn of(
+        calls: impl Iterator<Item = Call>,
+        flaws: impl Iterator<Item = (&'static str, Flaw)>,
+    ) -> Tally {
+        let mut tally = Tally {
+            flaws: flaws.map(|flaw| (flaw, 0)).collect(),
+            ..Tally::default()
+        };
         for call in calls {
             if tally.line(&call).is_none() {
                 let came = [0; ANSWERS];
@@ -37,6 +48,10 @@ impl Tally {
             .find(|line| line.call.name == call.name)
     }
 
+    pub fn count_flaw(&mut self, call: &'static str, flaw: Flaw) {
+        *self.flaws.entry((call, flaw)).or_default() += 1;
+    }
+
     /// Counts one call, in its line and in those of its parts.
     pub fn count(&mut self, lines: &[Call], returned: u32) {
         for call in lines {
@@ -46,7 +61,7 @@ impl Tally {
         self.calls += 1;
     }
 
-    /// The answers that should have come and did not, or the other way round.
+    /// The answers that should have come and did not, or the other way round; and the flaws that did not.
     pub fn faults(&self) -> Vec<String> {
         let of_line = |line: &Line| {
             let expected = |answer: usize| line.call.answers.contains(&(answer as u8));
@@ -56,6 +71,8 @@ impl Tally {
                 .collect::<Vec<_>>()
         };
         let mut faults: Vec<String> = self.lines.iter().flat_map(of_line).collect();
+        let missing = self.flaws.iter().filter(|(_, came)| **came == 0);
+        faults.extend(missing.map(|((call, flaw), _)| format!("{call}: {flaw} came 0 times")));
         if self.demanded == 0 || self.demanded == self.wholes {
             faults.push(format!(
                 "demand 3 spoke of {} whole streams of {}",
@@ -63,6 +80,35 @@ impl Tally {
             ));
         }
         faults
+    }
+
+    /// The lines of the flaws, each with how often its flaws came.
+    fn flaw_lines(&self) -> Vec<(&'static str, String, Vec<u64>)> {
+        let mut lines: Vec<(_, String, Vec<u64>)> = Vec::new();
+        for (&(call, flaw), &came) in &self.flaws {
+            match lines.last_mut() {
+                Some((last, line, counts)) if *last == call && *line == flaw.line() => {
+                    counts.push(came)
+                }
+                _ => lines.push((call, flaw.line(), vec![came])),
+            }
+        }
+        lines
+    }
+
+    fn write_flaws(&self, f: &mut fmt::Formatter) -> fmt::Result {
+        let mut last = "";
+        for (call, line, counts) in self.flaw_lines() {
+            if call != last {
+                let title = format!("{call}: what is wrong");
+                writeln!(f, "{title:42}{:>9}{:>9}{:>9}", "places", "made", "fewest")?;
+                last = call;
+            }
+            let (places, made) = (counts.len(), counts.iter().sum::<u64>());
+            let fewest = counts.iter().min().copied().unwrap_or_default();
+            writeln!(f, "- {line:40}{places:>9}{made:>9}{fewest:>9}")?;
+        }
+        Ok(())
     }
 }
 
@@ -77,6 +123,7 @@ impl fmt::Display for Tally {
             writeln!(f)?;
         }
         writeln!(f, "{:26}{:>10}", "in all", self.calls)?;
+        self.write_flaws(f)?;
         let (wholes, demanded) = (self.wholes, self.demanded);
         write!(
             f,

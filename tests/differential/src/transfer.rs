@@ -3,12 +3,13 @@
 use crate::both;
 use crate::case::{outcome, Call, Case, Draw, Outcome, Part, Twist};
 use crate::cells::{self, STATUS_MOST};
+use crate::flaw::Flaw;
 use crate::lent::Guards;
-use crate::radio::{damage_padding, frame, samples, slots, PADDED};
+use crate::radio::{damage_padding, frame, other_padding_byte, padding_bytes, samples, slots};
 use crate::random::Number;
 use crate::twist::{
     cell_count, cell_value, damage, damage_sync, resize, slice_length, valid_cells, valid_numbers,
-    FRAME, STRANGE_COUNTS, SYNC,
+    FRAME, STRANGE_COUNTS,
 };
 use reference::row;
 
@@ -46,9 +47,19 @@ impl Transfer {
     }
 
     fn damage_padding(&mut self, draw: &mut Draw) {
-        *self = Transfer::of(draw.in_turn(&PADDED), self.frames(), draw);
-        let receivers = self.receivers;
-        damage_padding(self.any_frame(draw), receivers, draw);
+        let (receivers, byte) = draw.in_turn(&padding_bytes());
+        *self = Transfer::of(receivers, self.frames(), draw);
+        damage_padding(&mut self.any_frame(draw)[byte], draw);
+    }
+
+    /// Two padding bytes of one frame.
+    fn damage_padding_twice(&mut self, draw: &mut Draw) {
+        let (receivers, byte) = draw.in_turn(&padding_bytes());
+        let other = other_padding_byte((receivers, byte), draw);
+        *self = Transfer::of(receivers, self.frames(), draw);
+        let frame = self.any_frame(draw);
+        damage_padding(&mut frame[byte], draw);
+        damage_padding(&mut frame[other], draw);
     }
 
     /// The padding of one frame, and the sync of another or of the same: either may come first.
@@ -64,29 +75,33 @@ impl Transfer {
         resize(&mut self.input, length, draw);
     }
 
-    /// Whether each frame reads by itself; none if the call is refused before it comes to them.
-    fn reads(&self) -> Option<Vec<bool>> {
-        let (row, frames) = (row(self.receivers).ok()?, self.frames());
-        let comes_to_frames = self.input.len() == FRAME * frames
+    /// Whether nothing is wrong before the first frame is looked at.
+    fn comes_to_frames(&self) -> bool {
+        let frames = self.frames();
+        row(self.receivers).is_ok()
+            && self.input.len() == FRAME * frames
             && self.iq.len() >= frames * samples(self.receivers)
-            && self.mic.len() >= frames * row.slots
-            && cells::status(&self.status).is_some();
-        let reads = |frame: &[u8]| {
-            let padding = &frame[FRAME - row.padding..];
-            frame.starts_with(&SYNC) && padding.iter().all(|&byte| byte == 0)
-        };
-        comes_to_frames.then(|| self.input.chunks(FRAME).map(reads).collect())
+            && self.mic.len() >= frames * slots(self.receivers)
+            && cells::status(&self.status).is_some()
+    }
+
+    /// What is wrong with each frame by itself; none if the call is refused before it comes to them.
+    fn each_flaw(&self) -> Option<Vec<Option<Flaw>>> {
+        let flaw = |frame| Flaw::of_radio(frame, self.receivers);
+        self.comes_to_frames()
+            .then(|| self.input.chunks(FRAME).map(flaw).collect())
     }
 
     /// Whether the frames before the first that does not read are so many.
     fn reads_just(&self, count: usize) -> bool {
-        let before = |reads: Vec<bool>| reads.iter().take_while(|&&reads| reads).count();
-        self.reads().map(before) == Some(count)
+        let before =
+            |flaws: Vec<Option<Flaw>>| flaws.iter().take_while(|flaw| flaw.is_none()).count();
+        self.each_flaw().map(before) == Some(count)
     }
 
     fn two_do_not_read(&self) -> bool {
-        let refused = |reads: Vec<bool>| reads.iter().filter(|&&reads| !reads).count();
-        self.reads().is_some_and(|reads| refused(reads) == 2)
+        self.each_flaw()
+            .is_some_and(|flaws| flaws.iter().flatten().count() == 2)
     }
 }
 
@@ -112,6 +127,7 @@ impl Case for Transfer {
     };
     const TWISTS: &'static [Twist<Self>] = &[
         Transfer::damage_padding,
+        Transfer::damage_padding_twice,
         Transfer::damage_two,
         Transfer::input_length,
         |case, draw| damage(case.any_frame(draw), draw),
@@ -171,5 +187,13 @@ impl Case for Transfer {
         let both =
             both::radio_read_transfer(&mut input, self.receivers, &mut iq, &mut mic, &mut status);
         outcome(both, &[&input, &iq, &mic, &status])
+    }
+
+    fn flaw(&self) -> Option<Flaw> {
+        self.each_flaw()?.into_iter().flatten().next()
+    }
+
+    fn flaws() -> Vec<Flaw> {
+        Flaw::every_of_radio()
     }
 }

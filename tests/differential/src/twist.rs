@@ -79,11 +79,13 @@ pub fn damage(frame: &mut [u8], draw: &mut Draw) {
     }
 }
 
-/// One of the sync bytes, by one bit or by any.
+/// One of the sync bytes, two or all, each by one bit or by any.
 pub fn damage_sync(frame: &mut [u8], draw: &mut Draw) {
-    let bit = 1 << draw.random.below(8);
-    let any = 1 + draw.random.below(255) as u8;
-    if let Some(byte) = frame.get_mut(draw.turn % SYNC.len()) {
+    let set = 1 + draw.turn % 7;
+    let bytes = frame.iter_mut().take(SYNC.len()).enumerate();
+    for (_, byte) in bytes.filter(|(place, _)| set >> place & 1 == 1) {
+        let bit = 1 << draw.random.below(8);
+        let any = 1 + draw.random.below(255) as u8;
         *byte ^= draw.random.pick(&[bit, any]);
     }
 }

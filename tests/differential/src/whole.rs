@@ -5,6 +5,7 @@
 
 use crate::case::Draw;
 use crate::lent::Guards;
+use crate::model::Parts;
 use crate::stream::{Feed, PIECE_MOST};
 use crate::text::{frame, near_sync, text};
 use crate::twist::{FRAME, SYNC};
@@ -130,7 +131,8 @@ impl Whole {
         for &length in pieces {
             let (piece, later) = rest.split_at(length);
             let answer = feed.step(piece, guards)?;
-            handed_out.extend_from_slice(feed.frames(answer as usize >> 8));
+            let frames = Parts::of(answer).found as usize;
+            handed_out.extend_from_slice(feed.frames(frames));
             returned.push(answer);
             rest = later;
         }
