@@ -76,9 +76,31 @@ mistake radio_read.cases 'receivers 0 | answer 2 word 0' 'receivers 0 | answer 3
     'expected answer 3 word 0; door answer 2 word 0; reference answer 2 word 0'
 mistake radio_read.cases 'answer 0 word 31 | status dot 1 ptt 1' 'answer 0 word 30 | status dot 1 ptt 1' \
     'expected answer 0 word 30; door answer 0 word 31; reference answer 0 word 31'
-mistake radio_transfer.cases 'answer 6 frames 3' 'answer 6 frames 0' \
-    'expected answer 6 frames 0; door answer 6 frames 3; reference answer 6 frames 3'
+mistake radio_transfer.cases 'answer 6 frames 3 byte 0' 'answer 6 frames 0 byte 0' \
+    'expected answer 6 frames 0 byte 0; door answer 6 frames 3 byte 0; reference answer 6 frames 3 byte 0'
 mistake radio_write.cases 'word 256 | answer 9' 'word 256 | answer 0' 'expected answer 0; door answer 9; reference answer 9'
+
+# A place that is another: a later sync byte, a later padding byte, one that is counted from the payload, one of the
+# transfer's next frame; the index beside it; a cause.
+mistake radio_read.cases 'frame at 1 = 80 00    | answer 6 word 0 byte 1' 'frame at 1 = 80 00    | answer 6 word 0 byte 2' \
+    'expected answer 6 word 0 byte 2; door answer 6 word 0 byte 1; reference answer 6 word 0 byte 1'
+mistake host_read.cases 'frame at 0 = 80 7F FF | answer 6 address 0 byte 0' \
+    'frame at 0 = 80 7F FF | answer 6 address 0 byte 2' \
+    'expected answer 6 address 0 byte 2; door answer 6 address 0 byte 0; reference answer 6 address 0 byte 0'
+mistake radio_read.cases 'frame at 507 = 01 at 511 = FF | answer 7 word 0 byte 507' \
+    'frame at 507 = 01 at 511 = FF | answer 7 word 0 byte 511' \
+    'expected answer 7 word 0 byte 511; door answer 7 word 0 byte 507; reference answer 7 word 0 byte 507'
+mistake radio_read.cases 'frame at 488 = 01 | answer 7 word 0 byte 488' 'frame at 488 = 01 | answer 7 word 0 byte 480' \
+    'expected answer 7 word 0 byte 480; door answer 7 word 0 byte 488; reference answer 7 word 0 byte 488'
+mistake radio_transfer.cases 'input at 1022 = 01 at 1532 = 01 | answer 7 frames 1 byte 510' \
+    'input at 1022 = 01 at 1532 = 01 | answer 7 frames 1 byte 508' \
+    'expected answer 7 frames 1 byte 508; door answer 7 frames 1 byte 510; reference answer 7 frames 1 byte 510'
+mistake radio_transfer.cases 'input at 1000 = 01 | answer 7 frames 1 byte 488' \
+    'input at 1000 = 01 | answer 7 frames 0 byte 488' \
+    'expected answer 7 frames 0 byte 488; door answer 7 frames 1 byte 488; reference answer 7 frames 1 byte 488'
+mistake host_read.cases 'control 00 0C 00 00 03 | answer 8 address 0 cause source10' \
+    'control 00 0C 00 00 03 | answer 8 address 0 cause relay' \
+    'expected answer 8 address 0 cause relay; door answer 8 address 0 cause source10; reference answer 8'
 
 # A cell that is claimed to be as it was: in a record, past what a call writes, in a lent frame; and one that
 # is claimed to have changed after a refusal, or to be as it was after one that comes behind frames that were read.
@@ -88,14 +110,14 @@ mistake radio_read.cases '512 bytes | answer 0 word 1 | iq at 0 x 126' '512 byte
     'iq[125]: expected 1234567; door 0; reference 0'
 mistake radio_read.cases 'answer 0 word 1 | iq at 0 x 126 = 0 | mic at 0 x 63 = 0 | status heard' 'answer 0 word 1' \
     'iq: and 122 cells more'
-mistake radio_transfer.cases 'answer 6 frames 7 | iq iq7' 'answer 6 frames 7 | iq iq8' \
+mistake radio_transfer.cases 'answer 6 frames 7 byte 2 | iq iq7' 'answer 6 frames 7 byte 2 | iq iq8' \
     'iq[882]: expected 524288; door 1234567; reference 1234567'
-mistake radio_transfer.cases 'answer 6 frames 4 | iq iq4 | mic mic4 | status after4' \
-    'answer 6 frames 4 | iq iq4 | mic mic4' 'status dot: expected 1; door 0; reference 0'
+mistake radio_transfer.cases 'answer 6 frames 4 byte 1 | iq iq4 | mic mic4 | status after4' \
+    'answer 6 frames 4 byte 1 | iq iq4 | mic mic4' 'status dot: expected 1; door 0; reference 0'
 mistake host_build.cases 'turn 5 outputs 128 | answer 9' 'turn 5 outputs 128 | answer 9 | builder turn 6' \
     'builder turn: expected 6; door 5; reference 5'
 
-# A word that is not known: a call, an argument, a cell, contents, a kind, what is found.
+# A word that is not known: a call, an argument, a cell, contents, a kind, what is found, what its place is, a cause.
 mistake layout.cases 'layout of 3 |' 'layuot of 3 |' "unknown word 'layuot'"
 mistake layout.cases 'receivers 4 |' 'recievers 4 |' "unknown word 'recievers'"
 mistake radio_read.cases 'answer 0 word 0 | status pll 1' 'answer 0 word 0 | status pl 1' "status: unknown word 'pl'"
@@ -104,11 +126,34 @@ mistake fresh.cases 'answer 0 | builder fresh turn 0 length' 'answer 0 | builder
 mistake stream.cases 'define counts fresh' 'define count fresh' "unknown word 'count'"
 mistake host_read.cases 'control 00 63 00 00 00 | answer 0 address 0' 'control 00 63 00 00 00 | answer 0 word 0' \
     "unknown word 'word'"
+mistake host_read.cases 'frame at 1 = FF       | answer 6 address 0 byte 1' \
+    'frame at 1 = FF       | answer 6 address 0 cause relay' "unknown word 'cause'"
+mistake host_read.cases 'control 12 00 00 00 80 | answer 8 address 0 cause word9_c4_bit7' \
+    'control 12 00 00 00 80 | answer 8 address 0 byte 7' "unknown word 'byte'"
+mistake host_read.cases 'control 00 00 00 00 17 | answer 8 address 0 cause relay' \
+    'control 00 00 00 00 17 | answer 8 address 0 cause rely' "unknown word 'rely'"
 
-# What is missing: an answer, what is found, an argument, a field of a record, a title, a part of a description.
+# A place beside an answer that says none: an accepted call, a refusal of another kind, and one of the whole transfer.
+mistake radio_read.cases 'answer 0 word 31 | status dot 1 ptt 1' 'answer 0 word 31 byte 0 | status dot 1 ptt 1' \
+    "unknown word 'byte'"
+mistake radio_read.cases 'frame length 513 | answer 3 word 0' 'frame length 513 | answer 3 word 0 byte 511' \
+    "unknown word 'byte'"
+mistake radio_transfer.cases 'mic length 503 | input at 3584 = 7E | answer 4 frames 0' \
+    'mic length 503 | input at 3584 = 7E | answer 4 frames 0 byte 0' "unknown word 'byte'"
+mistake host_build.cases 'builder turn 255 | answer 1' 'builder turn 255 | answer 1 cause source10' "unknown word 'cause'"
+
+# What is missing: an answer, what is found, a place, a cause, an argument, a field of a record, a title, a part of a
+# description.
 mistake layout.cases '| answer 0 | row slot 8' '| row slot 8' 'the answer is missing'
 mistake layout.cases 'receivers 0 | answer 2' 'receivers 0 | answer' 'the answer is missing'
 mistake radio_read.cases 'receivers 9 | answer 2 word 0' 'receivers 9 | answer 2' 'word is missing'
+mistake radio_read.cases 'frame at 2 = 80 | answer 6 word 0 byte 2' 'frame at 2 = 80 | answer 6 word 0' 'byte is missing'
+mistake radio_read.cases 'frame at 506 = 80 | answer 7 word 0 byte 506' 'frame at 506 = 80 | answer 7 word 0 byte' \
+    'byte is missing'
+mistake radio_transfer.cases 'input at 1004 = 01 | answer 7 frames 1 byte 492' 'input at 1004 = 01 | answer 7 frames 1' \
+    'byte is missing'
+mistake host_read.cases 'control 14 80 00 00 00 | answer 8 address 0 cause word10_c1_bit7' \
+    'control 14 80 00 00 00 | answer 8 address 0' 'cause is missing'
 mistake_below -2 layout.cases 'usual layout | row 4 of 77' 'usual layout' 'row is missing'
 mistake fresh.cases '| builder marked turn 7 | answer 0' '| builder marked | answer 0' 'builder turn is missing'
 mistake layout.cases 'layout of 2 |' 'layout |' "the case's title is missing"
@@ -120,6 +165,11 @@ mistake radio_read.cases 'control 00 20 00 00 00' 'control 00 2G 00 00 00' "fram
 mistake radio_read.cases 'control 00 40 00 00 00' 'control 00 40 00 00' 'frame: control is not five bytes'
 mistake layout.cases 'receivers 9 | answer' 'receivers -1 | answer' 'receivers: -1 is out of range'
 mistake layout.cases 'receivers 257 | answer 2' 'receivers 257 | answer 10' "the answer: '10' is not a number from 0 to 9"
+mistake radio_read.cases 'frame at 2 = 7E | answer 6 word 0 byte 2' 'frame at 2 = 7E | answer 6 word 0 byte 3' \
+    "byte: '3' is not a number from 0 to 2"
+mistake radio_read.cases 'frame at 488 x 24 = 01 | answer 7 word 0 byte 488' \
+    'frame at 488 x 24 = 01 | answer 7 word 0 byte 512' \
+    "byte: '512' is not a number from 0 to 511"
 mistake stream.cases '0 | held at 513 = 01 | answer 1 frames 0' '0 | held at 514 = 01 | answer 1 frames 0' \
     'held: there is no place 514 among 514'
 mistake layout.cases 'slot 14 slots 36' 'slot 14 slot 36' "row: 'slot' is said twice"

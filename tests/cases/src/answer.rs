@@ -1,31 +1,117 @@
-//! The answer of a case.
+//! The answer of a case, as it is written and as the door returns it.
+//!
+//!     answer 0                        a call that finds nothing
+//!     answer 0 word 1                 what the call finds, by its name
+//!     answer 7 word 0 byte 509        refusals 6 and 7: the place, a byte of the frame
+//!     answer 8 address 0 cause relay  refusal 8: the cause, by its name
+//!
+//! The three refusals must say it, and no other answer may.
 
 use crate::call::Call;
 use crate::entry::{Clause, Mistake};
+use differential::model::Parts;
 
 const REFUSALS: u32 = 9;
-/// What is found stands above bit 7.
-const FOUND_MOST: u32 = 0xFF_FFFF;
+const FOUND_MOST: u32 = 0xFF;
+/// The causes of refusal 8, from 1 on.
+const CAUSES: [&str; 4] = ["source10", "relay", "word9_c4_bit7", "word10_c1_bit7"];
 
-/// `answer 0`, and what the call finds, by its name: `answer 0 word 1`. As the door returns it.
-pub fn answer(call: &Call, clause: &Clause) -> Result<u32, Mistake> {
-    let answer = number(clause, 1, "the answer", REFUSALS)?;
-    let Some(found) = call.found else {
-        clause.ends_at(2)?;
-        return Ok(answer);
-    };
-    let name = clause.word(2, found)?;
-    if name != found {
-        return Err(clause.unknown(name));
-    }
-    let found = number(clause, 3, found, FOUND_MOST)?;
-    clause.ends_at(4)?;
-    Ok(found << 8 | answer)
+/// What an answer says of where the frame is wrong.
+enum Place {
+    Byte { most: u32 },
+    Cause,
 }
 
-fn number(clause: &Clause, place: usize, wanted: &str, most: u32) -> Result<u32, Mistake> {
-    let word = clause.word(place, wanted)?;
-    let number = word.parse().ok().filter(|&number| number <= most);
-    let text = || format!("{wanted}: '{word}' is not a number from 0 to {most}");
-    number.ok_or_else(|| clause.mistake(text()))
+fn place_of(answer: u32) -> Option<Place> {
+    match answer {
+        6 => Some(Place::Byte { most: 2 }),
+        7 => Some(Place::Byte { most: 511 }),
+        8 => Some(Place::Cause),
+        _ => None,
+    }
+}
+
+/// As the door returns it.
+pub fn answer(call: &Call, clause: &Clause) -> Result<u32, Mistake> {
+    let mut words = Words { clause, next: 1 };
+    let answer = words.number("the answer", REFUSALS)?;
+    let found = match call.found {
+        Some(name) => words.named(name)?.number(name, FOUND_MOST)?,
+        None => 0,
+    };
+    let place = match place_of(answer) {
+        Some(Place::Byte { most }) => words.named("byte")?.number("byte", most)?,
+        Some(Place::Cause) => words.named("cause")?.cause()?,
+        None => 0,
+    };
+    clause.ends_at(words.next)?;
+    let parts = Parts {
+        answer,
+        found,
+        place,
+    };
+    Ok(parts.returned())
+}
+
+/// As it is written. What a call should not return is shown too.
+pub fn shown(call: &Call, returned: u32) -> String {
+    let Parts {
+        answer,
+        found,
+        place,
+    } = Parts::of(returned);
+    let found = match call.found {
+        Some(name) => format!(" {name} {found}"),
+        None if found != 0 => format!(" and {found}"),
+        None => String::new(),
+    };
+    let place = match place_of(answer) {
+        Some(Place::Byte { .. }) => format!(" byte {place}"),
+        Some(Place::Cause) => format!(" cause {}", cause_name(place)),
+        None if place != 0 => format!(" and place {place}"),
+        None => String::new(),
+    };
+    format!("answer {answer}{found}{place}")
+}
+
+fn cause_name(cause: u32) -> String {
+    let mut causes = (1..).zip(CAUSES);
+    let known = causes.find(|(number, _)| *number == cause);
+    known.map_or(cause.to_string(), |(_, name)| name.to_owned())
+}
+
+/// The words that are still to be read.
+struct Words<'a> {
+    clause: &'a Clause,
+    next: usize,
+}
+
+impl<'a> Words<'a> {
+    fn word(&mut self, wanted: &str) -> Result<&'a str, Mistake> {
+        let word = self.clause.word(self.next, wanted)?;
+        self.next += 1;
+        Ok(word)
+    }
+
+    /// What follows its name.
+    fn named(&mut self, name: &str) -> Result<&mut Self, Mistake> {
+        match self.word(name)? {
+            word if word == name => Ok(self),
+            other => Err(self.clause.unknown(other)),
+        }
+    }
+
+    fn number(&mut self, wanted: &str, most: u32) -> Result<u32, Mistake> {
+        let word = self.word(wanted)?;
+        let number = word.parse().ok().filter(|&number| number <= most);
+        let text = || format!("{wanted}: '{word}' is not a number from 0 to {most}");
+        number.ok_or_else(|| self.clause.mistake(text()))
+    }
+
+    fn cause(&mut self) -> Result<u32, Mistake> {
+        let word = self.word("cause")?;
+        let mut causes = (1..).zip(CAUSES);
+        let found = causes.find(|(_, name)| *name == word);
+        found.map_or(Err(self.clause.unknown(word)), |(number, _)| Ok(number))
+    }
 }

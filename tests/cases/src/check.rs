@@ -1,6 +1,7 @@
 //! Runs a case, and holds both sides to what was worked out.
 
-use crate::call::{After, Argument, Call, Given};
+use crate::answer::shown;
+use crate::call::{After, Argument, Given};
 use crate::file::Case;
 use differential::lent::Guards;
 
@@ -21,7 +22,7 @@ pub fn check(case: &Case) -> Vec<String> {
     let mut faults = Vec::new();
     let (library, reference) = (ran.both.library, ran.both.reference);
     if (library, reference) != (case.answer, case.answer) {
-        let shown = |returned| answer(case.call, returned);
+        let shown = |returned| shown(case.call, returned);
         faults.push(expected(
             &shown(case.answer),
             &shown(library),
@@ -42,15 +43,6 @@ pub fn check(case: &Case) -> Vec<String> {
 
 fn expected(expected: &str, library: &str, reference: &str) -> String {
     format!("expected {expected}; door {library}; reference {reference}")
-}
-
-fn answer(call: &Call, returned: u32) -> String {
-    let (answer, found) = (returned & 0xFF, returned >> 8);
-    match call.found {
-        Some(name) => format!("answer {answer} {name} {found}"),
-        None if found != 0 => format!("answer {answer} and {found}"),
-        None => format!("answer {answer}"),
-    }
 }
 
 fn cells(argument: &Argument, after: &[i128], left: &After) -> Vec<String> {
@@ -78,7 +70,7 @@ fn cells(argument: &Argument, after: &[i128], left: &After) -> Vec<String> {
 #[cfg(test)]
 mod tests {
     use super::*;
-    use crate::call::{argument, Ran};
+    use crate::call::{argument, Call, Ran};
     use crate::kind;
     use differential::both::Both;
 
@@ -126,6 +118,17 @@ mod tests {
         let answer = faults(|_| ran(RIGHT, (0x201, [5, 6]), None));
         let said = "expected answer 0 word 1; door answer 0 word 1; reference answer 1 word 2";
         assert_eq!(answer, [said]);
+    }
+
+    #[test]
+    fn one_place_is_wrong() {
+        let place = faults(|_| ran((0x1FD_0007, [5, 6]), (0x8, [5, 6]), None));
+        let said = "expected answer 0 word 1; door answer 7 word 0 byte 509; reference answer 8 word 0 cause 0";
+        assert_eq!(place, [said]);
+        let beside = faults(|_| ran((0x1_0100, [5, 6]), RIGHT, None));
+        let said =
+            "expected answer 0 word 1; door answer 0 word 1 and place 1; reference answer 0 word 1";
+        assert_eq!(beside, [said]);
     }
 
     #[test]

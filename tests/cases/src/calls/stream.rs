@@ -4,6 +4,7 @@ use crate::call::{argument, After, Call, Given, Ran};
 use crate::kind;
 use differential::both::{self, Both};
 use differential::lent::Lent;
+use differential::model::Parts;
 
 pub static SOUND: Call = Call {
     name: "stream_sound",
@@ -78,8 +79,15 @@ impl Side {
     }
 
     fn take(&mut self, returned: u32, output: &[u8]) -> Result<(), String> {
-        let (refusal, frames) = (returned & 0xFF, returned >> 8);
-        self.refusal = refusal;
+        let Parts {
+            answer,
+            found: frames,
+            place,
+        } = Parts::of(returned);
+        if place != 0 {
+            return Err(format!("answer {answer} and place {place}"));
+        }
+        self.refusal = answer;
         let (new, rest) = output
             .split_at_checked(frames as usize * FRAME)
             .ok_or("more frames than the output has room for")?;
