@@ -62,9 +62,20 @@ impl Transfer {
         damage_padding(&mut frame[other], draw);
     }
 
-    /// The padding of one frame, and the sync of another or of the same: either may come first.
+    /// The padding of one frame, and the sync or the padding of another or of the same: either may come first.
     fn damage_two(&mut self, draw: &mut Draw) {
         self.damage_padding(draw);
+        if draw.random.one_in(2) {
+            return damage_sync(self.any_frame(draw), draw);
+        }
+        let other = other_padding_byte(draw.in_turn(&padding_bytes()), draw);
+        damage_padding(&mut self.any_frame(draw)[other], draw);
+    }
+
+    /// The sync of one frame, and of another or of the same.
+    fn damage_two_syncs(&mut self, draw: &mut Draw) {
+        damage_sync(self.any_frame(draw), draw);
+        draw.turn = draw.random.below(7);
         damage_sync(self.any_frame(draw), draw);
     }
 
@@ -99,9 +110,10 @@ impl Transfer {
         self.each_flaw().map(before) == Some(count)
     }
 
-    fn two_do_not_read(&self) -> bool {
-        self.each_flaw()
-            .is_some_and(|flaws| flaws.iter().flatten().count() == 2)
+    /// Whether just two frames do not read, both for such a flaw.
+    fn two_do_not_read(&self, such: fn(Flaw) -> bool) -> bool {
+        let flaws: Vec<Flaw> = self.each_flaw().into_iter().flatten().flatten().collect();
+        flaws.len() == 2 && flaws.into_iter().all(such)
     }
 }
 
@@ -129,6 +141,7 @@ impl Case for Transfer {
         Transfer::damage_padding,
         Transfer::damage_padding_twice,
         Transfer::damage_two,
+        Transfer::damage_two_syncs,
         Transfer::input_length,
         |case, draw| damage(case.any_frame(draw), draw),
         |case, draw| damage_sync(case.any_frame(draw), draw),
@@ -167,7 +180,21 @@ impl Case for Transfer {
                 name: "- two frames do not read",
                 answers: &[6, 7],
             },
-            holds: Transfer::two_do_not_read,
+            holds: |case| case.two_do_not_read(|_| true),
+        },
+        Part {
+            line: Call {
+                name: "- two frames' sync",
+                answers: &[6],
+            },
+            holds: |case| case.two_do_not_read(|flaw| matches!(flaw, Flaw::Sync(_))),
+        },
+        Part {
+            line: Call {
+                name: "- two frames' padding",
+                answers: &[7],
+            },
+            holds: |case| case.two_do_not_read(|flaw| matches!(flaw, Flaw::Padding { .. })),
         },
     ];
 
