@@ -8,3 +8,4 @@ pub mod BuiltFrame
 pub mod WhollySent
 pub mod RoundTrip
 pub mod WhichByte
+pub mod Swapped

@@ -2,3 +2,4 @@ pub mod Read
 pub mod Build
 pub mod Exchange
 pub mod WhichByte
+pub mod Swapped

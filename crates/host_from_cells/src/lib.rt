@@ -25,8 +25,12 @@ ghost use Rattle.cells.specs.Cells.{within};
 ghost use Rattle.host_cells.specs.Host.{hostCount};
 ghost use Rattle.host_from_cells.specs.FromCells.{hostMost, builderMost, hostWith, hostIn, builderIn};
 
-// The most that each cell can hold, the turn's last.
-const MOST: [u32; HOST + 1] = [
+// The cells before word 9's: MOX, word 0's and the frequencies.
+const BEFORE_9: usize = 27;
+
+// The most that each cell can hold, before word 9's and from there on, the turn's last. Of one table for all the compiler
+// has a part filled anew at each call.
+const MOST_BEFORE_9: [u32; BEFORE_9] = [
     1,
     3,
     2,
@@ -54,6 +58,9 @@ const MOST: [u32; HOST + 1] = [
     4294967295,
     4294967295,
     4294967295,
+];
+
+const MOST_FROM_9: [u32; HOST + 1 - BEFORE_9] = [
     255,
     1,
     1,
@@ -96,7 +103,11 @@ const MOST: [u32; HOST + 1] = [
 pub fn is_host(cells: &[u32]) -> bool
     ensures { λ r. ⌜ r ≡ within hostMost (now (cells .entry)) ⌝ }
 {
-    within(&MOST[..HOST], cells)
+    if within(&MOST_BEFORE_9, cells) {
+        within(&MOST_FROM_9[..HOST - BEFORE_9], &cells[BEFORE_9..])
+    } else {
+        false
+    }
 }
 
 // The record that the cells are; too few of them give a fresh one.
@@ -176,7 +187,11 @@ pub(crate) fn host_with(
 pub fn is_builder(cells: &[u32]) -> bool
     ensures { λ r. ⌜ r ≡ within builderMost (now (cells .entry)) ⌝ }
 {
-    within(&MOST, cells)
+    if within(&MOST_BEFORE_9, cells) {
+        within(&MOST_FROM_9, &cells[BEFORE_9..])
+    } else {
+        false
+    }
 }
 
 // The builder that the cells are; too few of them give a fresh one.

@@ -6,7 +6,7 @@ use native.Mathlib.Nat.{le-trans, mul-le-mul-right, suc-mul, add-sub-cancel-left
 use native.Mathlib.Numerals.{add-one}
 use native.Mathlib.Omega.{arith}
 use borrow.Rule.Slice.PartMut.{putMid, midOf, mid-len}
-use lib.ListN.{length, drop, length-append, length-drop}
+use lib.ListN.{length, drop, length-append, length-drop, drop-of-length-le}
 use lib.Seq.{drop-length, take-at, drop-at, drop-drop}
 use Rattle.wire.proofs.Lists.{length-tabs}
 use Rattle.wire.specs.Lists.{tabs}
@@ -26,6 +26,10 @@ module _ {A : Type 0} where
     -- the first n parts, of k elements each, written over the start of xs
     abbrev pub filled : ℕ → List A
     filled n = tabs n f ++ drop (n * k) xs
+
+    -- all of xs, where that is n parts
+    pub all-filled : (n : ℕ) → length xs ≡ n * k → filled n ≡ tabs n f
+    all-filled n whole = ap (λ l. tabs n f ++ l) (drop-of-length-le xs {i = n * k} (omega arith)) ∙ append-nil (tabs n f)
 
     module _ (long : (t : ℕ) → length (f t) ≡ k) where
       pub length-filled : (n : ℕ) → n * k ≤ length xs → length (filled n) ≡ length xs

@@ -11,8 +11,8 @@ use Rattle.wire.proofs.Bytes.{sample-back, bytes-back}
 use Rattle.wire.proofs.Lists.{tab-same, tab-getD, length-tab, getD-tab, tabs-same, getD-tabs, parts}
 use Rattle.wire.specs.Lists.{tab, tabs, over}
 use Rattle.wire.specs.Numbers.{be, signed, Bytes, Samples16}
-use Rattle.host_samples.proofs.Slots.{at-four, pairOf-fits, standing-in}
-use Rattle.host_samples.specs.Samples.{pairOf, standing, pair, number, numbers, pairBytes, payloadFrom}
+use Rattle.host_samples.proofs.Slots.{at-four, pairOf-fits, standing-in, standing-fits}
+use Rattle.host_samples.specs.Samples.{pairOf, standing, pair, number, numbers, pairBytes, pairsFrom, payloadFrom}
 
 -- who stands in whose place is mutual
 pairOf-twice : (j : ℕ) → j < 4 → pairOf (pairOf j) ≡ j
@@ -23,12 +23,9 @@ standing-twice k =
     let inside : k % 4 < 4 = omega arith in
     standing-in (k / 4) (pairOf (k % 4)) (pairOf-fits (k % 4) inside) ∙ ap (λ j. k / 4 * 4 + j) (pairOf-twice (k % 4) inside) ∙ omega arith
 
-standing-fits : (k : ℕ) → k < 252 → standing k < 252
-standing-fits k h = let inside = pairOf-fits (k % 4) (omega arith) in omega arith
-
 -- pair m of a payload that was written
 pair-written : (audio : List ℤ) (m : ℕ) → m < 252 → pair (payloadFrom audio) m ≡ signed 16 (be (pairBytes (getD audio (standing m) (pos 0))))
-unfolding payloadFrom
+unfolding payloadFrom pairsFrom
 pair-written audio m h =
     let f : ℕ → List ℕ = λ n. pairBytes (getD audio (standing n) (pos 0)) in
     ap₂ (λ a b. signed 16 (be (a ∷ b ∷ [])))
@@ -37,7 +34,7 @@ pair-written audio m h =
 
 pub number-back : (audio : List ℤ) → Samples16 audio → (k : ℕ) → k < 252 → number (payloadFrom audio) k ≡ getD audio k (pos 0)
 number-back audio fits k h =
-    pair-written audio (standing k) (standing-fits k h)
+    pair-written audio (standing k) (standing-fits 63 k h)
     ∙ ap (λ n. signed 16 (be (pairBytes (getD audio n (pos 0))))) (standing-twice k)
     ∙ sample-back 2 (2 ^ 15) refl (getD audio k (pos 0)) (fits k)
 
@@ -65,13 +62,13 @@ pair-bytes payload m fits bytes =
 
 -- a payload comes back from the numbers that were read from it
 pub payload-back : (payload : List ℕ) (out : List ℤ) → Bytes payload → length payload ≡ 504 → 252 ≤ length out → payloadFrom (numbers payload out) ≡ payload
-unfolding payloadFrom numbers
+unfolding payloadFrom pairsFrom numbers
 payload-back payload out bytes long room =
     tabs-same 252 (λ m. pairBytes (getD (over 252 (number payload) out) (standing m) (pos 0))) (λ m. take 2 (drop (m * 2) payload))
     (λ m h.
     ap pairBytes
-    (List·getD-append (tab 252 (number payload)) (drop 252 out) (pos 0) (standing m) (rw (length-tab 252 (number payload)) (standing-fits m h))
-    ∙ getD-tab 252 (number payload) (standing m) (pos 0) (standing-fits m h)
+    (List·getD-append (tab 252 (number payload)) (drop 252 out) (pos 0) (standing m) (rw (length-tab 252 (number payload)) (standing-fits 63 m h))
+    ∙ getD-tab 252 (number payload) (standing m) (pos 0) (standing-fits 63 m h)
     ∙ ap (pair payload) (standing-twice m))
     ∙ pair-bytes payload m (omega arith) bytes)
     ∙ sym (append-nil (tabs 252 (λ m. take 2 (drop (m * 2) payload))))

@@ -1,4 +1,4 @@
--- Document 01, "Frame and slots": a host payload is 63 slots of L, R, I, Q, 2 bytes each. Assumes nothing.
+-- Document 01, "Frame and slots": a host payload is 63 slots of L, R, I, Q, 2 bytes each; with T-03, which swaps I and Q. Assumes nothing.
 use Prim.Native.Nat.{ℕ, _+_, _*_, _/_, _%_}
 use mathlib.Core.Bool.{Bool, cond, _&&_}
 use mathlib.Core.List.{List, [], _∷_}
@@ -9,10 +9,10 @@ use Rattle.wire.specs.Lists.{over, tabs}
 use Rattle.wire.specs.Numbers.{be, signed, bytesOf, unsigned}
 use Rattle.wire.specs.Choice.{four}
 
--- The pair of bytes, of a slot's four, in which each of its numbers L, R, I, Q stands; and which number stands in a pair,
--- since twice is none.
+-- The pair of bytes, of the four drawn as L, R, I, Q, in which each of the caller's L, R, I, Q stands; and which of them stands in a pair, since
+-- twice is none. T-03: "The builder now puts the caller's I in the bytes drawn as Q, and its Q in those drawn as I; the host reader swaps back."
 abbrev pub pairOf : ℕ → ℕ
-pairOf = four 0 1 2 3
+pairOf = four 0 1 3 2
 
 -- the same over the whole payload
 abbrev pub standing : ℕ → ℕ
@@ -37,12 +37,15 @@ payloadOf f = drop 8 f
 unfoldable pub numbers : List ℕ → List ℤ → List ℤ
 numbers payload audio = over 252 (number payload) audio
 
--- The way back: the bytes of a number, and of a slice's first 252.
+-- The way back: the bytes of a number, those of the first n numbers of some slots, and those of a slice's first 252.
 abbrev pub pairBytes : ℤ → List ℕ
 pairBytes x = bytesOf 2 (unsigned 16 x)
 
+unfoldable pub pairsFrom : ℕ → List ℤ → List ℕ
+pairsFrom n audio = tabs n (λ m. pairBytes (getD audio (standing m) (pos 0)))
+
 unfoldable pub payloadFrom : List ℤ → List ℕ
-payloadFrom audio = tabs 252 (λ m. pairBytes (getD audio (standing m) (pos 0)))
+payloadFrom audio = pairsFrom 252 audio
 
 -- "504 bytes of payload", and a slice with room for "the 252 signed 16-bit numbers"
 unfoldable pub whole : ℕ → ℕ → Bool

@@ -1,60 +1,60 @@
--- `host_samples::write_numbers` meets its contract: each turn lays the two bytes of one number more, or nothing is written. Assumes nothing.
-use mathlib.Core.Path.{_≡_, refl, sym, ap, _∙_}
+-- `host_samples::write_numbers` meets its contract: after t turns seven times t slots are written, or nothing is. Assumes nothing.
+use mathlib.Core.Path.{_≡_, refl, sym, _∙_}
 use mathlib.Core.List.{List}
 use Prim.Native.Nat.{ℕ, _-_, _*_, _≤_}
-use native.Mathlib.Nat.{zero-add}
-use native.Mathlib.Numerals.{add-one}
+use native.Mathlib.Nat.{add-sub-cancel-left}
 use native.Mathlib.Omega.{arith}
 use borrow.Author.Needs.{needs}
 use denote.Ref.{now}
-use lib.IntN.{ℤ, pos}
-use lib.ListN.{length, getD, length-set}
-use Rattle.wire.specs.Lists.{tabs}
-use Rattle.wire.proofs.Laid.{Laid, none-laid, one-laid-more, all-laid}
-use Rattle.wire.proofs.Lists.{sets-all}
-use Rattle.host_samples.proofs.Slots.{held, standing-same, length-payload}
+use lib.IntN.{ℤ}
+use lib.ListN.{length}
+use Rattle.host_samples.proofs.Filling.{Turned, turned, all-filled, filled-more, part-long}
+use Rattle.host_samples.proofs.Slots.{length-pairs, groupAt, group-by-group}
 use Rattle.host_samples.proofs.Lengths.{lengths, all-written, none-written}
-use Rattle.host_samples.specs.Samples.{standing, pairBytes, payloadFrom}
+use Rattle.host_samples.specs.Samples.{pairsFrom, payloadFrom}
 use Rattle.host_samples.proofs.write_numbers.Statement.{statement}
 use Rattle.host_samples.proofs.write_numbers.Tie as tie
 
-abbrev written : List ℤ → ℕ → List ℕ
-written audio m = pairBytes (getD audio (standing m) (pos 0))
-
-each : (audio : List ℤ) (m : ℕ) → length (written audio m) ≡ 2
-each audio m = refl
+abbrev sevens : List ℤ → ℕ → List ℕ
+sevens audio t = pairsFrom 28 (groupAt 28 audio t)
 
 abbrev Inv-loop : tie.InvT-loop
-Inv-loop payload₀ audio k₀ payload k = (252 ≤ length audio) × Laid 0 2 252 (written audio) payload₀ k payload
+Inv-loop payload₀ audio t₀ payload t = (252 ≤ length audio) × Turned 56 (sevens audio) payload₀ 9 t payload
 
 abbrev μ-loop : tie.MeasureT-loop
-μ-loop payload₀ audio k₀ payload k = 252 - k
+μ-loop payload₀ audio t₀ payload t = 9 - t
 
 loop-holds : tie.Need-loop-holds Inv-loop μ-loop
 loop-holds c =
     let long = lengths _ _ (sym (c .before .whole .ensures) ∙ c .if1 .taken) in
-    (long .1, none-laid _ _ _ _ _ (omega arith))
+    (long .1, turned 56 _ _ 9 0 _ (λ t. length-pairs 28 _) (omega (arith, long .0)) (omega arith) refl)
+
+write-seven-requires : tie.Need-write-seven-requires Inv-loop μ-loop
+write-seven-requires c κs =
+    let turn = c .before .before .before .loop in
+    (part-long 56 (turn .t) _ (omega arith), part-long 28 (turn .t) _ (omega arith))
 
 loop-again : tie.Need-loop-again Inv-loop μ-loop
 loop-again c =
-    let turn = c .before .before in
-    let audio = now (turn .before .before .before .before .before .args .audio) in
-    let k = turn .before .loop .k in
-    let same = held (getD audio k (pos 0)) (c .before .bytes-of-sample16-arg .given) in
-    let own = ap (λ m. getD audio m (pos 0)) (sym (standing-same k)) in
-    let bytes : c .bytes-of-sample16 .result ≡ written audio k = c .bytes-of-sample16 .ensures ∙ ap pairBytes (same ∙ own) in
-    (turn .before .loop .inv .0, one-laid-more _ _ _ _ _ (each audio) k _ (turn .before .loop .inv .1) _ (turn .loop-test .taken) (rw (bytes, zero-add (k * 2), add-one (k * 2))))
+    let turn = c .before .before .before .before .before .before .loop in
+    let inv = turn .inv .1 in (
+      turn .inv .0,
+      turned 56 _ _ 9 _ _ (λ t. length-pairs 28 _) (inv .room) (omega arith)
+          (rw (c .before .before .write-seven .ensures, inv .same, add-sub-cancel-left (turn .t * 28) 28)
+          (filled-more 56 (sevens _) _ (λ t. length-pairs 28 _) (turn .t))),
+    )
 
 returns : tie.Need-returns Inv-loop μ-loop
 unfolding payloadFrom
 returns c =
+    let turn = c .before .loop in
     let tested = c .before .before in
     let both = sym (tested .before .whole .ensures) ∙ tested .if1 .taken in
     let given = tested .before .before .before .args in
-    let audio = now (given .audio) in
-    let long = lengths _ _ both in
-    all-laid _ _ _ _ _ (each audio) _ _ (c .before .loop .inv .1) (c .loop-test .left)
-    ∙ sets-all (now (given .payload)) (tabs 252 (written audio)) (length-payload audio ∙ sym (long .0))
+    let last : turn .t ≡ 9 = omega arith in
+    rw last at (turn .inv .1 .same)
+    ∙ all-filled 56 (sevens (now (given .audio))) (now (given .payload)) 9 (lengths _ _ both .0)
+    ∙ group-by-group 9 7 (now (given .audio))
     ∙ sym (all-written _ _ both)
 
 returns-2 : tie.Need-returns-2 Inv-loop μ-loop
@@ -68,10 +68,8 @@ write-numbers-spec =
     μ-loop
     (λ c κs. search needs)
     loop-holds
-    (λ c. omega arith) (λ c. omega arith)
-    (λ c κs. search needs)
-    (λ c. search needs) (λ c. omega arith) (λ c. omega arith) (λ c. search needs) (λ c. omega arith) (λ c. omega arith)
-    (λ c. simp length-set (omega arith))
+    (λ c. omega arith) (λ c. omega arith) (λ c. omega arith) (λ c. omega arith) (λ c. omega arith) (λ c. omega arith) (λ c. omega arith) (λ c. omega arith) (λ c. omega arith) (λ c. omega arith) (λ c. omega arith)
+    write-seven-requires
     (λ c. omega arith) (λ c. omega arith)
     loop-again
     (λ c. c .before .loop .inv .1 .long)
