@@ -1,5 +1,5 @@
 //! Host frames (EP2), the host record and the host's turn of words, with the
-//! word 10 that request T-07 adds.
+//! word 10 that request T-07 adds and the I and Q that T-03 swaps.
 
 use crate::bits::{bit, byte, code, flags};
 use crate::frame::{begin, open, whole, whole_mut, Control};
@@ -7,6 +7,11 @@ use crate::refusal::{Cause, Refusal};
 
 /// 63 slots of L, R, I and Q.
 const AUDIO: usize = 252;
+/// Bytes of a slot.
+const SLOT_SIZE: usize = 8;
+/// Where in a slot the caller's L, R, I and Q begin: its I in the bytes drawn
+/// as Q, and its Q in those drawn as I (T-03).
+const SLOT_PLACES: [usize; 4] = [0, 2, 6, 4];
 const LAST_TURN: u8 = 10;
 /// The code that neither the 10 MHz source nor the transmit relay assigns.
 const UNASSIGNED: u8 = 3;
@@ -273,8 +278,27 @@ fn reserved([c0, c1, _, _, c4]: Control) -> Option<Cause> {
     }
 }
 
+/// Takes the caller's L, R, I and Q from a slot.
+#[inline]
+fn take_slot(bytes: &[u8], numbers: &mut [i16]) {
+    for (number, place) in numbers.iter_mut().zip(SLOT_PLACES) {
+        *number = i16::from_be_bytes([bytes[place], bytes[place + 1]]);
+    }
+}
+
+/// Puts the caller's L, R, I and Q into a slot.
+#[inline]
+fn put_slot(numbers: &[i16], bytes: &mut [u8]) {
+    for (number, place) in numbers.iter().zip(SLOT_PLACES) {
+        bytes[place..place + 2].copy_from_slice(&number.to_be_bytes());
+    }
+}
+
 /// Reads one host frame: 252 numbers in the order L, R, I, Q, and its word
 /// into the host record. `Ok` is the word's address, 0 to 127.
+///
+/// I and Q are those that [`build`] was given: I comes from the bytes drawn as
+/// Q, and Q from those drawn as I.
 ///
 /// Refused: 3 for a frame not of 512 bytes, 4 for an audio slice under 252, 6
 /// without sync, 8 for an unassigned code or bit. The last two say the first
@@ -286,13 +310,18 @@ pub fn host_read(frame: &[u8], audio: &mut [i16], host: &mut Host) -> Result<u8,
     if let Some(cause) = reserved(control) {
         return Err(Refusal::Reserved { cause });
     }
-    for (number, pair) in audio.iter_mut().zip(payload.chunks_exact(2)) {
-        *number = i16::from_be_bytes([pair[0], pair[1]]);
+    let slots = payload.chunks_exact(SLOT_SIZE);
+    for (bytes, numbers) in slots.zip(audio.chunks_exact_mut(SLOT_PLACES.len())) {
+        take_slot(bytes, numbers);
     }
     Ok(host.take(control))
 }
 
 /// Writes the host frame whose word is the turn's, and moves the turn on.
+///
+/// The first 252 numbers are L, R, I, Q, 63 times. In the frame I stands in the
+/// bytes drawn as Q, and Q in those drawn as I: toward the radio they are
+/// reversed for historical reasons, and the host must swap them.
 ///
 /// Refused: 1 for a turn above 10, 3 for a frame not of 512 bytes, 4 for an
 /// audio slice under 252, 8 for an unassigned code in the record, 9 for
@@ -313,8 +342,9 @@ pub fn build(builder: &mut Builder, audio: &[i16], frame: &mut [u8]) -> Result<(
         return Err(Refusal::Range);
     }
     let payload = begin(frame, host.control(*turn));
-    for (pair, number) in payload.chunks_exact_mut(2).zip(audio) {
-        pair.copy_from_slice(&number.to_be_bytes());
+    let slots = payload.chunks_exact_mut(SLOT_SIZE);
+    for (bytes, numbers) in slots.zip(audio.chunks_exact(SLOT_PLACES.len())) {
+        put_slot(numbers, bytes);
     }
     *turn = if *turn == LAST_TURN { 0 } else { *turn + 1 };
     Ok(())

@@ -174,14 +174,43 @@ fn host_frames_read_and_written() {
 }
 
 #[test]
-fn host_slots_are_left_right_i_q() {
+fn host_slots_are_left_right_q_i() {
     let audio: Vec<i16> = (0..252).map(|i| i - 100).collect();
     let host = Host::fresh();
     let mut frame = [0; 512];
     build(&mut Builder { host, turn: 0 }, &audio, &mut frame).unwrap();
     assert_eq!(
         frame[8..16],
-        [0xFF, 0x9C, 0xFF, 0x9D, 0xFF, 0x9E, 0xFF, 0x9F]
+        [0xFF, 0x9C, 0xFF, 0x9D, 0xFF, 0x9F, 0xFF, 0x9E]
     );
-    assert_eq!(frame[510..], [0x00, 0x97]);
+    assert_eq!(frame[508..], [0x00, 0x97, 0x00, 0x96]);
+}
+
+/// L, R, I and Q as a caller has them, and the slot's bytes.
+const SLOTS: [([i16; 4], [u8; 8]); 3] = [
+    (
+        [258, 772, 1286, 1800],
+        [0x01, 0x02, 0x03, 0x04, 0x07, 0x08, 0x05, 0x06],
+    ),
+    (
+        [-2, -259, 32_767, -32_768],
+        [0xFF, 0xFE, 0xFE, 0xFD, 0x80, 0x00, 0x7F, 0xFF],
+    ),
+    ([0, 0, 1, 0], [0, 0, 0, 0, 0, 0, 0, 1]),
+];
+
+#[test]
+fn i_and_q_of_one_slot_are_swapped_both_ways() {
+    for slot in [0, 31, 62] {
+        for (numbers, bytes) in SLOTS {
+            let (mut audio, mut drawn) = ([0; 252], frame([0; 5]));
+            audio[4 * slot..][..4].copy_from_slice(&numbers);
+            drawn[8 + 8 * slot..][..8].copy_from_slice(&bytes);
+            let (mut host, mut written, mut heard) = (Host::fresh(), [0xEE; 512], [99; 252]);
+            build(&mut Builder { host, turn: 0 }, &audio, &mut written).unwrap();
+            assert_eq!(written, drawn);
+            host_read(&drawn, &mut heard, &mut host).unwrap();
+            assert_eq!(heard, audio);
+        }
+    }
 }
