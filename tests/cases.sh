@@ -45,6 +45,10 @@ copy_with() { # NAME TEXT OTHER
     line=$(cat "$room/lines")
 }
 
+line_of() { # NAME TEXT
+    grep -n "$2" "$data/$1" | cut -d: -f1
+}
+
 # One mistake, which is found at its own line.
 mistake() { # NAME TEXT OTHER SAYS
     copy_with "$1" "$2" "$3"
@@ -101,6 +105,24 @@ mistake radio_transfer.cases 'input at 1000 = 01 | answer 7 frames 1 byte 488' \
 mistake host_read.cases 'control 00 0C 00 00 03 | answer 8 address 0 cause source10' \
     'control 00 0C 00 00 03 | answer 8 address 0 cause relay' \
     'expected answer 8 address 0 cause relay; door answer 8 address 0 cause source10; reference answer 8'
+
+# I and Q, which T-03 swaps: left as they were in one direction alone, in the first slot and in the last; and L and R
+# swapped too.
+mistake_below 1 host_build.cases 'frame silent at 8 = 01 02 03 04 07 08 05 06' \
+    'frame silent at 8 = 01 02 03 04 05 06 07 08' \
+    'build four numbers, first slot: frame[12]: expected 05; door 07; reference 07'
+mistake_below 1 host_build.cases 'audio 252 of 0 at 0 = 258 772 1286 1800' 'audio 252 of 0 at 0 = 258 772 1800 1286' \
+    'host_read four numbers, first slot: audio[2]: expected 1800; door 1286; reference 1286'
+mistake_below 1 host_build.cases 'frame silent at 504 = FF FE FE FD FC FB FD FC' \
+    'frame silent at 504 = FF FE FE FD FD FC FC FB' \
+    'build four below 0, last slot: frame[508]: expected FD; door FC; reference FC'
+mistake_below 1 host_build.cases 'audio 252 of 0 at 248 = -2 -259 -516 -773' 'audio 252 of 0 at 248 = -2 -259 -773 -516' \
+    'host_read four below 0, last slot: audio[250]: expected -773; door -516; reference -516'
+mistake_below 1 host_build.cases 'frame silent at 256 = 01 02 03 04 07 08 05 06' \
+    'frame silent at 256 = 03 04 01 02 07 08 05 06' \
+    'build four numbers, middle slot: frame[256]: expected 03; door 01; reference 01'
+mistake_below 1 host_build.cases 'audio 252 of 0 at 124 = 258 772 1286 1800' 'audio 252 of 0 at 124 = 772 258 1286 1800' \
+    'host_read four numbers, middle slot: audio[124]: expected 772; door 258; reference 258'
 
 # A cell that is claimed to be as it was: in a record, past what a call writes, in a lent frame; and one that
 # is claimed to have changed after a refusal, or to be as it was after one that comes behind frames that were read.
@@ -178,10 +200,18 @@ mistake fresh.cases 'answer 0 | status fresh length 27 of 7' 'answer 0 | status 
 mistake_below 1 stream.cases 'pieces 5 of 513 at 4 = 6' 'pieces 5 of 513 at 4 = 5' 'the pieces are shorter than the input'
 mistake layout.cases 'layout of 6 |' 'layout of 5 |' 'has a case of the same title'
 
+# I and Q left as they were in a file of parts, and so in both directions.
+cp "$data"/host_build.cases "$room"
+awk '{ sub(/00 03[+]04 FF FF/, "FF FF 00 03+04") } { print }' "$data/host.parts" >"$room/host.parts"
+must_fail host_build.cases "$(line_of host_build.cases '^build the numbers')" \
+    'frame[12]: expected FF; door 00; reference 00'
+must_fail host_build.cases "$(line_of host_build.cases '^host_read the numbers back')" \
+    'audio[2]: expected -1; door 3; reference 3'
+
 # Mistakes in a file of parts are reported there.
 copy_with fresh.cases 'over a full record' 'over a record'
 awk '{ sub(/pll 0 toggle 0/, "pll 0") } { print }' "$data/radio.parts" >"$room/radio.parts"
-must_fail fresh.cases "$(grep -n 'define status fresh' "$data/radio.parts" | cut -d: -f1)" 'toggle is missing' radio.parts
+must_fail fresh.cases "$(line_of radio.parts 'define status fresh')" 'toggle is missing' radio.parts
 
 # A file without a case, and one that is not there.
 : >"$room/empty.cases"
@@ -192,7 +222,7 @@ must_fail missing.cases 1 'No such file'
 
 # Every failing case is listed, and the others are run.
 awk '{ sub(/answer 2/, "answer 3") } { print }' "$data/layout.cases" >"$room/layout.cases"
-must_fail layout.cases "$(grep -n 'layout of 0' "$data/layout.cases" | cut -d: -f1)" 'expected answer 3; door answer 2'
+must_fail layout.cases "$(line_of layout.cases 'layout of 0')" 'expected answer 3; door answer 2'
 [ "$(wc -l <"$room/said")" -eq "$(grep -c 'answer 2' "$data/layout.cases")" ] || fails 'not every failing case is listed'
 grep -q "layout.cases: $(grep -c '^layout' "$data/layout.cases") cases" "$room/out" || fails 'the cases are not all run'
 
