@@ -7,13 +7,14 @@ use crate::cells::{
 };
 use crate::flaw::Flaw;
 use crate::lent::Guards;
+use crate::slots;
 use crate::twist::{
     cell_count, cell_value, damage, damage_sync, frame_length, slice_length, valid_cells,
     valid_numbers, FRAME, SYNC,
 };
 use std::ops::RangeInclusive;
 
-const AUDIO: usize = 252;
+pub const AUDIO: usize = 252;
 /// The words that are listed: 0 to 10.
 const WORDS: usize = 11;
 
@@ -109,6 +110,13 @@ impl Read {
     fn comes_to_frame(&self) -> bool {
         self.frame.len() == FRAME && self.audio.len() >= AUDIO && cells::host(&self.host).is_some()
     }
+
+    /// Whether nothing is wrong, and a swap of two numbers shows in every slot.
+    fn shows_a_swap(&self) -> bool {
+        self.comes_to_frame()
+            && Flaw::of_host(&self.frame).is_none()
+            && slots::frame_shows(&self.frame)
+    }
 }
 
 impl Case for Read {
@@ -125,6 +133,13 @@ impl Case for Read {
         |case, draw| cell_value(&mut case.host, HOST_MOST, draw),
         |case, draw| cell_count(&mut case.host, HOST, draw),
     ];
+    const PARTS: &'static [Part<Self>] = &[Part {
+        line: Call {
+            name: "- read, I not Q, L not R",
+            answers: &[0],
+        },
+        holds: Read::shows_a_swap,
+    }];
 
     fn valid(draw: &mut Draw) -> Self {
         let any = draw.random.below(128);
@@ -142,7 +157,9 @@ impl Case for Read {
         let mut audio = guards.lend("audio", &self.audio);
         let mut host = guards.lend("host", &self.host);
         let both = both::host_read(&mut frame, &mut audio, &mut host);
-        outcome(both, &[&frame, &audio, &host])
+        let returned = outcome(both, &[&frame, &audio, &host])?;
+        slots::check(returned, &self.frame, audio.left())?;
+        Ok(returned)
     }
 
     fn flaw(&self) -> Option<Flaw> {
@@ -168,14 +185,26 @@ impl Build {
         }
     }
 
+    /// The cells whose number is out of range, if nothing else is wrong.
+    fn strays(&self) -> Option<Vec<usize>> {
+        let sound = cells::builder(&self.builder)
+            .is_some_and(|record| usize::from(record.turn) < WORDS)
+            && self.audio.len() >= AUDIO
+            && self.frame.len() == FRAME;
+        let strays = RANGES
+            .iter()
+            .filter(|(cell, range)| !range.contains(&self.builder[*cell]));
+        sound.then(|| strays.map(|(cell, _)| *cell).collect())
+    }
+
     /// Whether the number of this cell is out of range, and nothing else is wrong.
     fn only_strays_in(&self, cell: usize) -> bool {
-        cells::builder(&self.builder).is_some_and(|record| usize::from(record.turn) < WORDS)
-            && self.audio.len() >= AUDIO
-            && self.frame.len() == FRAME
-            && RANGES
-                .iter()
-                .all(|(at, range)| range.contains(&self.builder[*at]) == (*at != cell))
+        self.strays() == Some(vec![cell])
+    }
+
+    /// Whether nothing is wrong, and a swap of two numbers shows in every slot.
+    fn shows_a_swap(&self) -> bool {
+        self.strays() == Some(vec![]) && slots::numbers_show(&self.audio)
     }
 }
 
@@ -215,6 +244,13 @@ impl Case for Build {
             },
             holds: |case| case.only_strays_in(WORD10_C2_TOP),
         },
+        Part {
+            line: Call {
+                name: "- built, I not Q, L not R",
+                answers: &[0],
+            },
+            holds: Build::shows_a_swap,
+        },
     ];
 
     fn valid(draw: &mut Draw) -> Self {
@@ -237,6 +273,8 @@ impl Case for Build {
         let mut audio = guards.lend("audio", &self.audio);
         let mut frame = guards.lend("frame", &self.frame);
         let both = both::build(&mut builder, &mut audio, &mut frame);
-        outcome(both, &[&builder, &audio, &frame])
+        let returned = outcome(both, &[&builder, &audio, &frame])?;
+        slots::check(returned, frame.left(), &self.audio)?;
+        Ok(returned)
     }
 }

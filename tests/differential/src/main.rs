@@ -7,6 +7,7 @@ mod host;
 mod options;
 mod plain;
 mod radio;
+mod slots;
 mod stream;
 mod tally;
 mod text;
