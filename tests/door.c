@@ -656,9 +656,11 @@ static void put_audio(struct desk *desk) {
         desk->audio[1][at] = audio_number(at);
 }
 
+/* T-03: Q stands where I is drawn, and I where Q is drawn. */
 static void draw_audio(uint8_t *frame) {
+    static const size_t drawn[] = {0, 1, 3, 2};
     for (size_t at = 0; at < HPSDR_AUDIO; at++)
-        put_number(frame + FIRST_PAYLOAD + 2 * at, (uint32_t)audio_number(at), 2);
+        put_number(frame + FIRST_PAYLOAD + 2 * at, (uint32_t)audio_number(at / 4 * 4 + drawn[at % 4]), 2);
 }
 
 static const struct hpsdr_host full_host = {
@@ -678,7 +680,8 @@ static const uint8_t full_host_words[LAST_TURN + 1][5] = {
     {0x0D, 0x51, 0x52, 0x53, 0x54}, {0x0F, 0x61, 0x62, 0x63, 0x64}, {0x11, 0xFF, 0xFE, 0xFD, 0xFC},
     {0x13, 0xA5, 0x4D, 0x96, 0x65}, {0x15, 0x5D, 0xD3, 0xB7, 0x8E}};
 
-/* The words in the order 10 to 0 on a fresh record: after each the record has the full one's cells from it on. */
+/* The words in the order 10 to 0 on a fresh record: after each the record has the full one's cells from it on. Four
+ * numbers more are a slot more, which stays. */
 static void test_host_words(size_t more) {
     static const size_t first_cell[] = {1, 19, 20, 21, 22, 23, 24, 25, 26, 27, 51};
     set_out();
@@ -711,6 +714,28 @@ static void test_builds(size_t more) {
         set_control(expected.frame[1], full_host_words[turn]);
         expected.builder[1].turn = turn == LAST_TURN ? 0 : (uint32_t)turn + 1;
         run("build", build, HPSDR_ACCEPTED, 0);
+    }
+}
+
+/* One slot's L, R, I and Q among zeros, read and built, and the bytes that request T-03 makes of them. */
+static void test_slot(size_t slot, const int16_t numbers[4], const uint8_t bytes[8]) {
+    set_out();
+    memcpy(lent.frame[1] + FIRST_PAYLOAD + 8 * slot, bytes, 8);
+    expect_unchanged();
+    memset(expected.audio[1], 0, sizeof expected.audio[1]);
+    memcpy(expected.audio[1] + 4 * slot, numbers, 4 * sizeof *numbers);
+    run("host read of one slot", host_read, HPSDR_ACCEPTED, 0);
+    memcpy(lent.audio[1], expected.audio[1], sizeof lent.audio[1]);
+    memset(lent.frame[1], 0xEE, HPSDR_FRAME);
+    expected.builder[1].turn = 1;
+    run("build of one slot", build, HPSDR_ACCEPTED, 0);
+}
+
+static void test_slots(void) {
+    for (size_t slot = 0; slot < HPSDR_AUDIO / 4; slot++) {
+        test_slot(slot, (const int16_t[]){258, 772, 1286, 1800}, (const uint8_t[]){1, 2, 3, 4, 7, 8, 5, 6});
+        test_slot(slot, (const int16_t[]){-2, -259, 32767, -32768},
+                  (const uint8_t[]){0xFF, 0xFE, 0xFE, 0xFD, 0x80, 0x00, 0x7F, 0xFF});
     }
 }
 
@@ -1057,9 +1082,10 @@ int main(void) {
     test_transfer_lengths();
     test_transfer_refusals();
     test_host_words(0);
-    test_host_words(3);
+    test_host_words(4);
     test_builds(0);
-    test_builds(3);
+    test_builds(4);
+    test_slots();
     test_codes();
     test_filter_bits();
     test_mox();

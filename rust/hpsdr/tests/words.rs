@@ -290,11 +290,27 @@ fn audio_both_ways() {
     audio[251] = -32_768;
     let mut written = [0; 512];
     assert_eq!(Builder::fresh().build(&audio, &mut written), Ok(()));
-    for (pair, number) in written[8..].chunks_exact(2).zip(audio) {
-        assert_eq!(pair, [(number >> 8) as u8, number as u8]);
+    for (slot, numbers) in written[8..].chunks_exact(8).zip(audio.chunks_exact(4)) {
+        let swapped = [numbers[0], numbers[1], numbers[3], numbers[2]];
+        assert_eq!(slot, swapped.map(i16::to_be_bytes).as_flattened());
     }
     let mut read = [1; AUDIO + 2];
     assert_eq!(Host::fresh().read(&written, &mut read), Ok(0));
     assert_eq!(read[..AUDIO], audio);
     assert_eq!(read[AUDIO..], [1; 2]);
+}
+
+/// A caller's I stands in the bytes drawn as Q, and its Q in those drawn as I (T-03).
+#[test]
+fn i_and_q_are_swapped_both_ways() {
+    for slot in [0, 31, 62] {
+        let (mut audio, mut drawn) = ([0; AUDIO], frame([0; 5]));
+        audio[4 * slot..][..4].copy_from_slice(&[258, -259, 1286, -32_768]);
+        drawn[8 + 8 * slot..][..8].copy_from_slice(&[1, 2, 0xFE, 0xFD, 0x80, 0, 5, 6]);
+        let (mut written, mut read) = ([1; 512], [1; AUDIO]);
+        assert_eq!(Builder::fresh().build(&audio, &mut written), Ok(()));
+        assert_eq!(written, drawn);
+        assert_eq!(Host::fresh().read(&drawn, &mut read), Ok(0));
+        assert_eq!(read, audio);
+    }
 }
