@@ -265,9 +265,12 @@ static uint32_t take_host_word(struct hpsdr_host *host, const uint8_t *control)
 
 enum host_state { HOST_SYNC, HOST_CONTROL, AUDIO_HIGH, AUDIO_LOW };
 
+/* Where the numbers of a slot go in L, R, I, Q: the bytes drawn as I hold Q, and those drawn as Q hold I. */
+static const size_t slot_order[] = {0, 1, 3, 2};
+
 struct host_machine {
     enum host_state state;
-    size_t count; /* of sync or control bytes */
+    size_t count; /* of sync or control bytes, or of the slot's numbers */
     uint8_t high;
     uint8_t control[CONTROLS];
 };
@@ -290,6 +293,7 @@ static inline enum hpsdr_answer host_step(struct host_machine *machine, uint8_t 
             break;
         if (sets_reserved(machine->control))
             return HPSDR_RESERVED;
+        machine->count = 0;
         machine->state = AUDIO_HIGH;
         break;
     case AUDIO_HIGH:
@@ -297,7 +301,11 @@ static inline enum hpsdr_answer host_step(struct host_machine *machine, uint8_t 
         machine->state = AUDIO_LOW;
         break;
     case AUDIO_LOW:
-        *(*audio)++ = (int16_t)(machine->high << 8 | byte);
+        (*audio)[slot_order[machine->count]] = (int16_t)(machine->high << 8 | byte);
+        if (++machine->count == 4) {
+            machine->count = 0;
+            *audio += 4;
+        }
         machine->state = AUDIO_HIGH;
         break;
     }
