@@ -151,7 +151,7 @@ static inline const char *hpsdr_transfer_text(uint32_t got, char text[HPSDR_TEXT
 #define HPSDR_MOST_IQ 160       /* the most I and Q values of a radio frame: 2 times 8 receivers times 10 slots */
 #define HPSDR_MOST_MIC 63       /* the most microphone values of a radio frame: the slots of one receiver */
 #define HPSDR_MOST_FRAMES 8     /* frames of the longest transfer: the most that a stream hands out in a call */
-#define HPSDR_AUDIO 252         /* numbers of a host frame: L, R, I, Q, 63 times */
+#define HPSDR_AUDIO 252         /* numbers of a host frame: the caller's L, R, I, Q, 63 times */
 #define HPSDR_PIECE_MOST 4096   /* bytes of the longest piece that a stream is fed */
 #define HPSDR_OUTPUT_LEAST 4096 /* bytes of the shortest output that a stream is lent: eight frames */
 #define HPSDR_HELD 514          /* bytes that a stream may hold */
@@ -341,11 +341,16 @@ uint32_t hpsdr_host_fresh(struct hpsdr_host *host, size_t host_cells);
 
 static inline void hpsdr_host_init(struct hpsdr_host *host) { hpsdr_host_fresh(host, HPSDR_HOST_CELLS); }
 
-/* Reads a frame: its 252 numbers to the start of `audio`, and its word into the record where it stands. L, R, I and Q
- * of slot t, 0 to 62, are audio[4 * t] and the three after it, and each may be any int16_t. Found: the word's address,
- * 0 to 127, of which 0 to 10 are listed; another one sets `mox` only. Refusals: BAD_STATE, LENGTH, SHORT_BUFFER,
- * NO_SYNC, RESERVED. Place: for NO_SYNC the first of the frame's bytes 0 to 2 that is not 7F, for RESERVED an
- * `enum hpsdr_cause`. */
+/* The audio of a host frame, read or built: L, R, I and Q of slot t, 0 to 62, are audio[4 * t] and the three after it, and
+ * each may be any int16_t. A caller gives and gets its own I and Q, and in the frame its I stands in the bytes drawn as Q
+ * and its Q in those drawn as I, because toward the radio the protocol has I and Q reversed relative to receive, a
+ * historical bug that it keeps. Whether the program that built a frame has swapped them, no reader can know from its
+ * bytes. */
+
+/* Reads a frame: its 252 numbers to the start of `audio`, and its word into the record where it stands. Found: the
+ * word's address, 0 to 127, of which 0 to 10 are listed; another one sets `mox` only. Refusals: BAD_STATE, LENGTH,
+ * SHORT_BUFFER, NO_SYNC, RESERVED. Place: for NO_SYNC the first of the frame's bytes 0 to 2 that is not 7F, for RESERVED
+ * an `enum hpsdr_cause`. */
 uint32_t hpsdr_host_read(const uint8_t *frame, size_t frame_length, int16_t *audio, size_t audio_length,
                          struct hpsdr_host *host, size_t host_cells);
 
@@ -368,9 +373,9 @@ static inline void hpsdr_builder_init(struct hpsdr_builder *builder) {
     hpsdr_builder_fresh(builder, HPSDR_BUILDER_CELLS);
 }
 
-/* Writes the frame whose word is due, with the first 252 numbers of `audio` in the order above, and moves the turn on
- * by one, 10 going to 0; the host record stays as it is. All of it is tested, whichever word is due. Refusals:
- * BAD_STATE, LENGTH, SHORT_BUFFER, RANGE. */
+/* Writes the frame whose word is due, with the first 252 numbers of `audio` as told above, and moves the turn on by one,
+ * 10 going to 0; the host record stays as it is. All of it is tested, whichever word is due. Refusals: BAD_STATE,
+ * LENGTH, SHORT_BUFFER, RANGE. */
 uint32_t hpsdr_build(struct hpsdr_builder *builder, size_t builder_cells, const int16_t *audio, size_t audio_length,
                      uint8_t *frame, size_t frame_length);
 

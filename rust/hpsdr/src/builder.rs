@@ -56,8 +56,9 @@ impl Builder {
         cells.builder()
     }
 
-    /// Writes the frame whose word is due, with the first 252 numbers of `audio`, and moves the turn on by one, 10
-    /// going to 0. The whole record is tested, whichever word is due.
+    /// Writes the frame whose word is due, with the first 252 numbers of `audio`, I and Q swapped (see
+    /// [`AUDIO`](crate::AUDIO)), and moves the turn on by one, 10 going to 0. The whole record is tested, whichever word
+    /// is due.
     ///
     /// Refusals: `BadState`, `Length`, `ShortBuffer`, `Range`.
     ///
@@ -67,10 +68,11 @@ impl Builder {
     /// let (mut builder, mut audio, mut frame) = (Builder::fresh(), [0; AUDIO], [0; FRAME]);
     /// builder.turn = 2;
     /// builder.host.frequencies[0] = 7_100_000;
-    /// audio[0] = -2;
+    /// // L, R, I and Q of the first slot. I goes into the bytes drawn as Q, and Q into those drawn as I.
+    /// audio[..4].copy_from_slice(&[-2, 3, 5, 7]);
     /// assert_eq!(builder.build(&audio, &mut frame), Ok(()));
     /// assert_eq!(frame[..8], [0x7F, 0x7F, 0x7F, 0x04, 0x00, 0x6C, 0x56, 0x60]);
-    /// assert_eq!(frame[8..11], [0xFF, 0xFE, 0]);
+    /// assert_eq!(frame[8..17], [0xFF, 0xFE, 0x00, 0x03, 0x00, 0x07, 0x00, 0x05, 0x00]);
     /// assert_eq!(builder.turn, 3);
     ///
     /// builder.host.receivers = 9;

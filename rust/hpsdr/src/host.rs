@@ -194,8 +194,8 @@ impl Host {
         Host::of_cells(&cells)
     }
 
-    /// Reads a frame: its 252 numbers to the start of `audio`, its word into the record. Gives the word's address,
-    /// 0 to 127, of which 0 to 10 are listed.
+    /// Reads a frame: its 252 numbers to the start of `audio`, I and Q swapped back (see [`AUDIO`](crate::AUDIO)), its word
+    /// into the record. Gives the word's address, 0 to 127, of which 0 to 10 are listed.
     ///
     /// Refusals: `Length`, `ShortBuffer`, `NoSync`, `Reserved`. The last two say which byte of the frame it was, and which
     /// code or bit.
@@ -204,11 +204,13 @@ impl Host {
     /// use hpsdr::{Cause, Host, Refusal, Relay, AUDIO, FRAME};
     ///
     /// let (mut host, mut audio, mut frame) = (Host::fresh(), [0; AUDIO], [0; FRAME]);
-    /// // Sync, word 2 with 7,100,000 Hz; L of the first slot.
-    /// frame[..10].copy_from_slice(&[0x7F, 0x7F, 0x7F, 0x04, 0x00, 0x6C, 0x56, 0x60, 0xFF, 0xFE]);
+    /// // Sync, word 2 with 7,100,000 Hz.
+    /// frame[..8].copy_from_slice(&[0x7F, 0x7F, 0x7F, 0x04, 0x00, 0x6C, 0x56, 0x60]);
+    /// // The first slot: L, R, and in the bytes drawn as I the sender's Q, in those drawn as Q its I.
+    /// frame[8..16].copy_from_slice(&[0xFF, 0xFE, 0x00, 0x03, 0x00, 0x07, 0x00, 0x05]);
     /// assert_eq!(host.read(&frame, &mut audio), Ok(2));
     /// assert_eq!(host.frequencies, [7_100_000, 0, 0, 0, 0, 0, 0]);
-    /// assert_eq!(audio[..2], [-2, 0]);
+    /// assert_eq!(audio[..5], [-2, 3, 5, 7, 0]);
     ///
     /// // Word 10: the preamps of receivers 1 and 4, a line-in gain of 31.
     /// frame[3..8].copy_from_slice(&[0x14, 0x09, 0x1F, 0, 0]);
