@@ -342,10 +342,10 @@ uint32_t hpsdr_host_fresh(struct hpsdr_host *host, size_t host_cells);
 static inline void hpsdr_host_init(struct hpsdr_host *host) { hpsdr_host_fresh(host, HPSDR_HOST_CELLS); }
 
 /* The audio of a host frame, read or built: L, R, I and Q of slot t, 0 to 62, are audio[4 * t] and the three after it, and
- * each may be any int16_t. A caller gives and gets its own I and Q, and in the frame its I stands in the bytes drawn as Q
- * and its Q in those drawn as I, because toward the radio the protocol has I and Q reversed relative to receive, a
- * historical bug that it keeps. Whether the program that built a frame has swapped them, no reader can know from its
- * bytes. */
+ * each may be any int16_t. A caller gives a build its L, R, I and Q in this order, and in the frame its I stands in the
+ * bytes drawn as Q and its Q in those drawn as I, because toward the radio the protocol has I and Q reversed relative to
+ * receive, a historical bug that it keeps; a read swaps them back. Whether the program that built a frame has swapped
+ * them, no reader can know from its bytes: where it has not, a read gives them exchanged. */
 
 /* Reads a frame: its 252 numbers to the start of `audio`, and its word into the record where it stands. Found: the
  * word's address, 0 to 127, of which 0 to 10 are listed; another one sets `mox` only. Refusals: BAD_STATE, LENGTH,

@@ -28,8 +28,8 @@ ghost use Rattle.host_from_cells.specs.FromCells.{hostMost, builderMost,
 // The cells before word 9's: MOX, word 0's and the frequencies.
 const BEFORE_9: usize = 27;
 
-// The most that each cell can hold, before word 9's and from there on, the turn's last. Of one table for all the compiler
-// has a part filled anew at each call.
+// The most that each cell can hold, before word 9's and from there on, the turn's last. One table for all would not be folded
+// into the tests, but be laid on the stack in part at each call.
 const MOST_BEFORE_9: [u32; BEFORE_9] = [
     1,
     3,

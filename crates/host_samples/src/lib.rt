@@ -91,8 +91,8 @@ pub(crate) fn seven_of(numbers: &[i16]) -> [i16; 28]
     own
 }
 
-// Seven slots. Their numbers are all taken before a byte is written: the compiler cannot know that writing does not
-// change them, and so takes many at a time.
+// Seven slots. Their numbers are all taken before a byte is written, so that the compiler can take many at a time: of a
+// number not yet taken it cannot know that a byte written does not change it.
 pub(crate) fn write_seven(part: &mut [u8], numbers: &[i16])
     requires { ⌜ (length (now part) ≡ 56) × (length (now numbers) ≡ 28) ⌝ }
     ensures { λ r. ⌜ now (part .exit) ≡ pairsFrom 28 (now (numbers .entry)) ⌝ }

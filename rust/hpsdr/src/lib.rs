@@ -59,9 +59,10 @@ pub const MOST_MIC: usize = 63;
 pub const MOST_FRAMES: usize = 8;
 /// Numbers of a host frame: L, R, I, Q, 63 times.
 ///
-/// A caller gives and gets its own I and Q, and in the frame its I stands in the bytes drawn as Q and its Q in those drawn
-/// as I, because toward the radio the protocol has I and Q reversed relative to receive, a historical bug that it keeps.
-/// Whether the program that built a frame has swapped them, no reader can know from its bytes.
+/// A caller gives a build its L, R, I and Q in this order, and in the frame its I stands in the bytes drawn as Q and its Q
+/// in those drawn as I, because toward the radio the protocol has I and Q reversed relative to receive, a historical bug
+/// that it keeps; a read swaps them back. Whether the program that built a frame has swapped them, no reader can know from
+/// its bytes: where it has not, a read gives them exchanged.
 pub const AUDIO: usize = 252;
 /// The most bytes that a piece may have.
 pub const PIECE_MOST: usize = 4096;
