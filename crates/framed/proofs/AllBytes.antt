@@ -1,23 +1,15 @@
--- Lists of bytes: parts of them, two one after another, and the frames that a reading hands out. Assumes nothing.
+-- Lists of bytes: two one after another, and the frames that a reading hands out. Assumes nothing.
 use mathlib.Core.Path.{_≡_}
 use mathlib.Core.List.{List, _++_}
 use Prim.Native.Nat.{ℕ, _+_, _-_}
 use native.Mathlib.Omega.{arith}
-use lib.ListN.{length, take, drop, length-take, List·getD-append, List·getD-eq-default}
-use lib.Seq.{getD-take, getD-drop, getD-append-add}
+use lib.ListN.{length, take, drop, List·getD-append}
+use lib.Seq.{getD-append-add}
 use Rattle.wire.specs.Numbers.{Bytes}
+use Rattle.wire.proofs.Bytes.{bytes-drop, bytes-take}
 use Rattle.wire.proofs.Cases.{by-order}
 use Rattle.stream.specs.Reading.{reading}
 use Rattle.stream.proofs.Readings.{reading-few, reading-good, reading-none, reading-ind}
-
-pub bytes-drop : (n : ℕ) (s : List ℕ) → Bytes s → Bytes (drop n s)
-bytes-drop n s small i = rw (getD-drop n s i 0) (small (n + i))
-
-pub bytes-take : (n : ℕ) (s : List ℕ) → Bytes s → Bytes (take n s)
-bytes-take n s small i =
-    by-order i n
-    (λ below. rw (getD-take n s i 0 below) (small i))
-    (λ above. rw (List·getD-eq-default (take n s) 0 {n = i} (omega (arith, length-take n s))) (omega arith))
 
 bytes-append : (x y : List ℕ) → Bytes x → Bytes y → Bytes (x ++ y)
 bytes-append x y one other i =

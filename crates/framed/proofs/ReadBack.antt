@@ -9,11 +9,11 @@ use lib.ListN.{length, drop}
 use Rattle.wire.specs.Lists.{tab, tabs}
 use Rattle.wire.specs.Numbers.{Bytes}
 use Rattle.wire.proofs.Lists.{tab-same}
+use Rattle.wire.proofs.Bytes.{bytes-take, bytes-drop}
 use Rattle.hexline.specs.Lines.{aFrame, contentOf, lines, newline}
 use Rattle.hexline.specs.Printed.{ended}
 use Rattle.hexline.proofs.Split.{unbroken, line-first}
 use Rattle.framed.specs.Hexadecimal.{digitsOf, lineOf, frameAt, linesOf}
-use Rattle.framed.proofs.AllBytes.{bytes-take, bytes-drop}
 use Rattle.framed.proofs.Digits.{digits-length, digits-unbroken, digits-all, digits-back}
 use Rattle.framed.proofs.Laying.{frame-length}
 

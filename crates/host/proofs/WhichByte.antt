@@ -7,12 +7,12 @@ use native.Mathlib.Omega.{arith}
 use borrow.Author.Tests.{eqb-true, not-false}
 use lib.IntN.{ℤ}
 use lib.ListN.{length, take}
-use Rattle.wire.specs.Answers.{Test, first, numberOf}
+use Rattle.wire.specs.Answers.{Test, first, numberOf, CauseNamed}
+use Rattle.wire.proofs.Causes.{cause-named}
 use Rattle.wire.proofs.First.{passing, never, no-place}
 use Rattle.wire.proofs.Named.{sync-told}
 use Rattle.host_record.specs.declared.record.Host.{Host}
-use Rattle.host_words.specs.Words.{unassigned, CauseNamed}
-use Rattle.host_words.proofs.Causes.{cause-named}
+use Rattle.host_words.specs.Words.{isSet, unassigned}
 use Rattle.host.specs.Read.{controlOf, refusals, readOf}
 use Rattle.host.specs.WhichByte.{TellsWhich}
 use Rattle.host.proofs.ReadCases.{read-answer}
@@ -21,10 +21,10 @@ module _ (frame : List ℕ) (room : ℕ) where
   abbrev all : List Test
   all = refusals frame room
 
-  cause-told : numberOf (first all) ≡ 8 → CauseNamed (controlOf frame) (first all)
+  cause-told : numberOf (first all) ≡ 8 → CauseNamed (isSet (controlOf frame)) (first all)
   cause-told is =
       let before = passing 8 (take 3 all) (unassigned (controlOf frame)) refl is in
-      subst⁻¹ (CauseNamed (controlOf frame)) (before .1) (cause-named (controlOf frame) (sym (ap numberOf (before .1)) ∙ is))
+      subst⁻¹ (CauseNamed (isSet (controlOf frame))) (before .1) (cause-named (isSet (controlOf frame)) (sym (ap numberOf (before .1)) ∙ is))
 
   tells : TellsWhich frame (first all)
   tells =

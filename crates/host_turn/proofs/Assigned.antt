@@ -46,7 +46,11 @@ assigned-none c ok = (
     not-both (eqb (address c) 0) (eqb (bits (c .c4) 1 0) 3) (λ z. let low = ok .relay (eqb-true _ _ z) in ne-eqb (bits (c .c4) 1 0) 3 (omega arith)),
     (
       not-both (eqb (address c) 9) (on (c .c4) 7) (λ z. ok .ninth (eqb-true _ _ z)),
-      (not-both (eqb (address c) 10) (on (c .c1) 7) (λ z. ok .tenth (eqb-true _ _ z)), tt),
+      (
+        not-both (eqb (address c) 10) (on (c .c1) 7) (λ z. ok .tenth (eqb-true _ _ z)),
+        -- no host word carries a level
+        (refl, (refl, (refl, (refl, (refl, (refl, tt)))))),
+      ),
     ),
   ),
 )

@@ -1,16 +1,13 @@
 -- Document 01, "Words from the host", and T-07: the address, MOX, and the fields of each word by their bits. Assumes nothing.
-use Prim.Native.Nat.{ℕ, suc, _+_, _-_, _<_}
-use mathlib.Core.Path.{_≡_}
-use mathlib.Core.Bool.{Bool, true, false, cond, _&&_}
-use mathlib.Core.List.{List, [], _∷_, map}
+use Prim.Native.Nat.{ℕ, suc, _+_, _-_}
+use mathlib.Core.Bool.{Bool, false, cond, _&&_}
+use mathlib.Core.List.{List, [], _∷_}
 use lib.Dec.{eqb, leb}
 use lib.ListN.{set}
-use Rattle.wire.specs.Answers.{Test, _gives_, causeNumber}
+use Rattle.wire.specs.Answers.{Test, reserving}
 use Rattle.wire.specs.Fields.{bits, bit, on}
 use Rattle.wire.specs.Lists.{tab}
 use Rattle.wire.specs.Numbers.{be}
-use Rattle.wire.specs.declared.Answer.{Answer}
-use Rattle.wire.specs.declared.Answer.the-variants.{Reserved}
 use Rattle.wire.specs.declared.Cause.{Cause}
 use Rattle.host_record.specs.Choices.{speedOf, source10Of, source122Of, boardsOf, microphoneOf, attenuatorOf, antennaOf, relayOf, jackOf}
 use Rattle.host_record.specs.declared.record.Host.{Host}
@@ -46,26 +43,22 @@ tunes a = leb 2 a && leb a 8
 abbrev pub hertz : Control → ℕ
 hertz c = be (c .c1 ∷ c .c2 ∷ c .c3 ∷ c .c4 ∷ [])
 
--- "an unassigned host code or bit is set": word 0's 10 MHz source and its transmit relay, word 9's C4 bit 7, and word 10's C1 bit 7
-abbrev pub isSet : Cause → Control → Bool
-isSet Cause.Source10 c = eqb (address c) 0 && eqb (bits (c .c1) 3 2) 3
-isSet Cause.Relay c = eqb (address c) 0 && eqb (bits (c .c4) 1 0) 3
-isSet Cause.Word9C4Bit7 c = eqb (address c) 9 && on (c .c4) 7
-isSet Cause.Word10C1Bit7 c = eqb (address c) 10 && on (c .c1) 7
-
--- T-02: "in that order when two are wrong"; T-07: word 10's "placed after T-02's three"
-abbrev pub causes : List Cause
-causes = Cause.Source10 ∷ Cause.Relay ∷ Cause.Word9C4Bit7 ∷ Cause.Word10C1Bit7 ∷ []
+-- "an unassigned host code or bit is set": word 0's 10 MHz source and its transmit relay, word 9's C4 bit 7, and word 10's C1 bit 7; no
+-- host word carries a level
+abbrev pub isSet : Control → Cause → Bool
+isSet c Cause.Source10 = eqb (address c) 0 && eqb (bits (c .c1) 3 2) 3
+isSet c Cause.Relay = eqb (address c) 0 && eqb (bits (c .c4) 1 0) 3
+isSet c Cause.Word9C4Bit7 = eqb (address c) 9 && on (c .c4) 7
+isSet c Cause.Word10C1Bit7 = eqb (address c) 10 && on (c .c1) 7
+isSet c Cause.Ain5 = false
+isSet c Cause.Ain1 = false
+isSet c Cause.Ain2 = false
+isSet c Cause.Ain3 = false
+isSet c Cause.Ain4 = false
+isSet c Cause.Ain6 = false
 
 abbrev pub unassigned : Control → List Test
-unassigned c = map (λ cause. isSet cause c gives Reserved cause) causes
-
--- what is promised of a cause that is named: it is set, and none before it is
-pub record CauseNamed (c : Control) (answer : Answer) : Type 0 where
-  pub cause : Cause
-  pub is : answer ≡ Reserved cause
-  pub set : isSet cause c ≡ true
-  pub none-before : (other : Cause) → causeNumber other < causeNumber cause → isSet other c ≡ false
+unassigned c = reserving (isSet c)
 
 -- what a code names, and the given choice where it names none
 abbrev pub source10Or : FoundSource10 → Source10 → Source10

@@ -3,3 +3,4 @@ pub mod TransferCases
 pub mod Leaves
 pub mod Settled
 pub mod Tells
+pub mod NoLevelAbove

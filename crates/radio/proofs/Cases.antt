@@ -7,17 +7,21 @@ use borrow.Author.Tests.{eq-eqb, ne-eqb, lt-ltb, le-ltb, eqb-true, ltb-false, no
 use lib.Dec.{ltb}
 use lib.IntN.{ℤ}
 use lib.ListN.{length, length-drop}
-use Rattle.wire.specs.Answers.{accepts, inOrder}
+use Rattle.wire.specs.Answers.{accepts, inOrder, reserving}
 use Rattle.wire.specs.Sync.{syncAt, noSync}
 use Rattle.wire.specs.declared.Answer.{Answer}
 use Rattle.wire.specs.declared.Answer.the-variants.{Accepted, BadCount, Length, ShortBuffer}
 use Rattle.wire.proofs.Cases.{by-test, neither}
-use Rattle.wire.proofs.First.{accepted-none, accepts-only}
+use Rattle.wire.proofs.First.{accepted-none, none-accepted, accepts-only, first-before, first-after}
 use Rattle.layout.specs.Slots.{counted, slots, values}
 use Rattle.radio_status.specs.declared.record.Status.{Status}
+use Rattle.radio_status.specs.Levels.{inPairs}
+use Rattle.radio_status.specs.declared.levels.TwoLevels.{TwoLevels}
+use Rattle.radio_status.specs.declared.levels.Levels.{Levels}
+use Rattle.radio_status.proofs.TwelveBits.{both-came, refused-by}
 use Rattle.radio_samples.specs.Samples.{samplesRead}
 use Rattle.radio_samples.proofs.Roomy.{has-room, all-read}
-use Rattle.radio.specs.Read.{payload, tests, frameAnswer, padded, badPadding, answerOf, taken, refused, gave, readOf}
+use Rattle.radio.specs.Read.{byte, payload, word, wordIn, above, levelAnswer, levelsIn, frameTests, tests, frameAnswer, padded, badPadding, answerOf, taken, refused, gave, readOf}
 use Rattle.radio.specs.declared.Reading.{Reading}
 
 -- the refusals of `read` stand in the order of the nine
@@ -52,6 +56,10 @@ module _ (frame : List ℕ) (n iq mic : ℕ) where
         unfolding frameAnswer
         all-good synced clean = rw (eq-eqb _ _ long, le-ltb _ _ iq-room, le-ltb _ _ mic-room, synced, clean)
 
+  pub frame-long : frameAnswer frame n iq mic ≡ Accepted → length frame ≡ 512
+  unfolding frameAnswer
+  frame-long passed = eqb-true _ _ (not-false _ (accepted-none (frameTests frame n iq mic) refl passed .0))
+
   -- what an accepted frame passed
   pub record Good : Type 0 where
     pub is-counted : counted n ≡ true
@@ -60,9 +68,10 @@ module _ (frame : List ℕ) (n iq mic : ℕ) where
     pub mic-room : slots n ≤ mic
     pub synced : syncAt frame 0 ≡ true
     pub clean : padded n frame ≡ true
+    pub leveled : levelAnswer frame ≡ Accepted
 
   pub good : answerOf frame n iq mic ≡ Accepted → Good
-  unfolding answerOf
+  unfolding answerOf levelAnswer
   good e =
       let none = accepted-none (tests frame n iq mic) refl e in
       let room = neither (ltb iq (values n)) (ltb mic (slots n)) (none .1 .1 .0) in
@@ -73,15 +82,35 @@ module _ (frame : List ℕ) (n iq mic : ℕ) where
         mic-room = ltb-false _ _ (room .1);
         synced = not-false _ (none .1 .1 .1 .0);
         clean = not-false _ (none .1 .1 .1 .1 .0);
+        leveled = none-accepted (reserving (above frame)) (none .1 .1 .1 .1 .1);
       }
 
   pub bad-count : counted n ≡ false → answerOf frame n iq mic ≡ BadCount
   unfolding answerOf
   bad-count other = rw other
 
-  pub answer-counted : counted n ≡ true → answerOf frame n iq mic ≡ frameAnswer frame n iq mic
-  unfolding answerOf frameAnswer
-  answer-counted is = rw is
+  module _ (is : counted n ≡ true) where
+    -- refused by a test of the frame before its levels, or by those of its levels alone
+    pub frame-refused : accepts (frameAnswer frame n iq mic) ≡ false → answerOf frame n iq mic ≡ frameAnswer frame n iq mic
+    unfolding answerOf frameAnswer
+    frame-refused refusal = rw is (first-before (frameTests frame n iq mic) (reserving (above frame)) refusal)
+
+    pub levels-left : frameAnswer frame n iq mic ≡ Accepted → answerOf frame n iq mic ≡ levelAnswer frame
+    unfolding answerOf frameAnswer levelAnswer
+    levels-left passed = rw is (first-after (frameTests frame n iq mic) (reserving (above frame)) (accepted-none (frameTests frame n iq mic) refl passed))
+
+-- the levels as they were read
+module _ (frame : List ℕ) where
+  abbrev pairs : TwoLevels
+  pairs = inPairs (byte frame 4) (byte frame 5) (byte frame 6) (byte frame 7)
+
+  pub levels-came : (two : TwoLevels) → levelsIn frame ≡ Levels.Both two → (levelAnswer frame ≡ Accepted) × (wordIn frame two ≡ word frame)
+  unfolding levelAnswer
+  levels-came two is = let came = both-came (levelAnswer frame) pairs two is in (came .0, ap (wordIn frame) (came .1))
+
+  pub levels-refused : (a : Answer) → levelsIn frame ≡ Levels.Refused a → (levelAnswer frame ≡ a) × (accepts a ≡ false)
+  unfolding levelAnswer
+  levels-refused a is = refused-by (levelAnswer frame) pairs a is
 
 module _ (frame : List ℕ) (n : ℕ) (iq mic : List ℤ) (s : Status) where
   pub read-refused : (a : Answer) → answerOf frame n (length iq) (length mic) ≡ a → accepts a ≡ false → readOf frame n iq mic s ≡ refused a iq mic s

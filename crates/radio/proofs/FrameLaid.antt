@@ -34,7 +34,7 @@ module _ (s : Status) (w n : ℕ) (iq mic : List ℤ) where
   -- over any frame of 512 bytes, header and payload leave the frame that is meant
   module _ (f : List ℕ) (passed : Good s w n iq (length mic) (length f)) where
     headed : headerOver s w f ≡ sets f 0 (header s w)
-    headed = header-laid s w f (passed .versions-fit) (passed .listed) (omega (arith, passed .long))
+    headed = header-laid s w f (passed .status-fits) (passed .listed) (omega (arith, passed .long))
 
     filled : samplesOver n iq mic (headerOver s w f) ≡ sets (headerOver s w f) 8 (payloadOf n iq mic)
     filled =

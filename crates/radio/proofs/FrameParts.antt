@@ -7,17 +7,19 @@ use native.Mathlib.Omega.{arith}
 use lib.IntN.{ℤ}
 use lib.ListN.{length, getD, drop, replicate, length-append, List·getD-append}
 use lib.Seq.{drop-at}
+use Rattle.wire.specs.Answers.{first}
 use Rattle.wire.specs.Every.{allZero}
 use Rattle.wire.specs.Lists.{tabs}
 use Rattle.wire.specs.Sync.{syncAt}
 use Rattle.wire.proofs.Everywhere.{zeros}
 use Rattle.layout.specs.Slots.{slots, padding}
+use Rattle.radio_status.specs.Levels.{levelTests}
 use Rattle.radio_status.specs.Words.{address, wordAt}
 use Rattle.radio_status.specs.Control.{keyByte, wordBytes, header}
 use Rattle.radio_status.specs.declared.record.Status.{Status}
 use Rattle.radio_status.proofs.HeaderCases.{word-long}
 use Rattle.radio_samples.specs.Fill.{slotBytes}
-use Rattle.radio.specs.Read.{byte, payload, word, padded}
+use Rattle.radio.specs.Read.{byte, payload, word, padded, levelAnswer}
 use Rattle.radio.specs.Write.{frameOf}
 use Rattle.radio.proofs.FrameLaid.{before-padding}
 
@@ -40,6 +42,10 @@ module _ (s : Status) (w n : ℕ) (iq mic : List ℤ) where
   pub frame-word : word (frameOf s w n iq mic) ≡ wordAt (address (keyByte s w)) (getD (wordBytes s w) 0 0) (getD (wordBytes s w) 1 0) (getD (wordBytes s w) 2 0) (getD (wordBytes s w) 3 0)
   unfolding frameOf
   frame-word = λ i. wordAt (address (keyByte s w)) (control 0 (omega arith) i) (control 1 (omega arith) i) (control 2 (omega arith) i) (control 3 (omega arith) i)
+
+  pub frame-levels : levelAnswer (frameOf s w n iq mic) ≡ first (levelTests (address (keyByte s w)) (getD (wordBytes s w) 0 0) (getD (wordBytes s w) 2 0))
+  unfolding frameOf levelAnswer
+  frame-levels = λ i. first (levelTests (address (keyByte s w)) (control 0 (omega arith) i) (control 2 (omega arith) i))
 
   pub frame-payload : payload (frameOf s w n iq mic) ≡ tabs (slots n) (slotBytes n iq mic) ++ replicate (padding n) 0
   unfolding frameOf

@@ -11,3 +11,4 @@ pub mod ReadBack
 pub mod WriteBack
 pub mod RoundTrip
 pub mod WhichByte
+pub mod NoLevelAbove

@@ -18,14 +18,16 @@ use Rattle.wire.proofs.Everywhere.{zeros-are}
 use Rattle.wire.proofs.Lists.{tab-getD, length-over}
 use Rattle.layout.specs.Slots.{slot, slots, padding, values}
 use Rattle.layout.proofs.Places.{whole-payload}
-use Rattle.radio_status.specs.Words.{address, applied}
-use Rattle.radio_status.specs.Control.{wordBytes, header, versionsFit}
+use Rattle.radio_status.specs.Words.{address, keyed, applied}
+use Rattle.radio_status.specs.Control.{wordBytes, header, versionsFit, levelsFit, statusFits}
 use Rattle.radio_status.specs.declared.record.Status.{Status}
+use Rattle.radio_status.proofs.HeaderCases.{leveled, levels-fit}
+use Rattle.radio_status.proofs.TwelveBits.{levels-applied}
 use Rattle.radio_status.proofs.WordsAgain.{word-bytes-again, versions-again, key-again}
 use Rattle.radio_samples.specs.Samples.{iqAt, micAt}
 use Rattle.radio_samples.specs.Fill.{slotBytes}
 use Rattle.radio_samples.proofs.SlotsAgain.{slots-again, samples-fit}
-use Rattle.radio.specs.Read.{byte, payload, word, after}
+use Rattle.radio.specs.Read.{byte, payload, word, levelAnswer, after}
 use Rattle.radio.specs.Write.{answerOf, frameOf}
 use Rattle.radio.proofs.Cases.{Good}
 use Rattle.radio.proofs.WriteCases.{answer-counted, all-good, range-good}
@@ -44,15 +46,21 @@ module _ (f : List ℕ) (n : ℕ) (iq mic : List ℤ) (s : Status) (small : Byte
   payload-long = rw (length-drop 8 f, read .long)
 
   module _ (listed : address (byte f 3) ≤ 4) where
-    pub write-answer-again : (lent : ℕ) → lent ≡ 512 → versionsFit (s .versions) ≡ true → answerOf (after f s) (address (byte f 3)) n iq-read (length mic-read) lent ≡ Accepted
-    unfolding applied
+    record-again : statusFits s ≡ true → statusFits (after f s) ≡ true
+    unfolding applied levelAnswer
+    record-again fit =
+        let both = both-true (versionsFit (s .versions)) (levelsFit s) fit in
+        let versions = versions-again (byte f 4) (byte f 5) (byte f 6) (byte f 7) (small 4) (small 5) (small 6) (small 7) (address (byte f 3)) listed (keyed (byte f 3) s) (both .0) in
+        let levels = levels-applied (byte f 4) (byte f 5) (byte f 6) (byte f 7) (small 4) (small 5) (small 6) (small 7) (address (byte f 3)) (read .leveled) (byte f 3) s (leveled s (both .1)) in
+        rw (versions, levels-fit (after f s) levels)
+
+    pub write-answer-again : (lent : ℕ) → lent ≡ 512 → statusFits s ≡ true → answerOf (after f s) (address (byte f 3)) n iq-read (length mic-read) lent ≡ Accepted
     write-answer-again lent long fit =
         answer-counted (after f s) (address (byte f 3)) n iq-read (length mic-read) lent (read .is-counted)
         ∙ all-good (after f s) (address (byte f 3)) n iq-read (length mic-read) lent long
         (rw (length-over (values n) (iqAt n (payload f)) iq (read .iq-room)) (read .iq-room))
         (rw (length-over (slots n) (micAt n (payload f)) mic (read .mic-room)) (read .mic-room))
-        (range-good (after f s) (address (byte f 3)) n iq-read (samples-fit n (payload f) payload-small payload-long iq mic)
-        (versions-again (byte f 4) (byte f 5) (byte f 6) (byte f 7) (small 4) (small 5) (small 6) (small 7) (address (byte f 3)) listed _ fit) listed)
+        (range-good (after f s) (address (byte f 3)) n iq-read (samples-fit n (payload f) payload-small payload-long iq mic) (record-again fit) listed)
 
     control-again : (address (byte f 3) ≡ 0 → bit (byte f 4) 7 ≡ 0) → wordBytes (after f s) (address (byte f 3)) ≡ byte f 4 ∷ byte f 5 ∷ byte f 6 ∷ byte f 7 ∷ []
     unfolding applied

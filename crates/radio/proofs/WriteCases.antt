@@ -14,7 +14,7 @@ use Rattle.wire.specs.declared.Answer.the-variants.{Accepted, BadCount, Length,
 use Rattle.wire.proofs.Cases.{both-true, neither}
 use Rattle.wire.proofs.First.{accepted-none}
 use Rattle.layout.specs.Slots.{counted, slots, values}
-use Rattle.radio_status.specs.Control.{versionsFit}
+use Rattle.radio_status.specs.Control.{statusFits}
 use Rattle.radio_status.specs.declared.record.Status.{Status}
 use Rattle.radio.specs.Write.{tests, laterAnswer, answerOf, inRange, frameOf, gave, writeOf}
 
@@ -24,18 +24,18 @@ module _ (s : Status) (w n : ℕ) (iq : List ℤ) where
   bad-sample out = rw out
 
   module _ (fit : allFit (take (values n) iq) ≡ true) where
-    pub bad-version : versionsFit (s .versions) ≡ false → inRange s w n iq ≡ false
+    pub unwritable : statusFits s ≡ false → inRange s w n iq ≡ false
     unfolding inRange
-    bad-version out = rw (fit, out)
+    unwritable out = rw fit (ap (λ b. b && leb w 4) out)
 
-    module _ (versions-fit : versionsFit (s .versions) ≡ true) where
+    module _ (status-fits : statusFits s ≡ true) where
       pub bad-word : 4 < w → inRange s w n iq ≡ false
       unfolding inRange
-      bad-word out = rw (fit, versions-fit, lt-leb w 4 out)
+      bad-word out = rw (fit, status-fits, lt-leb w 4 out)
 
       pub range-good : w ≤ 4 → inRange s w n iq ≡ true
       unfolding inRange
-      range-good listed = rw (fit, versions-fit, le-leb w 4 listed)
+      range-good listed = rw (fit, status-fits, le-leb w 4 listed)
 
 module _ (s : Status) (w n : ℕ) (iq : List ℤ) (mic frame : ℕ) where
   -- the refusals of `write` stand in the order of the nine
@@ -72,7 +72,7 @@ module _ (s : Status) (w n : ℕ) (iq : List ℤ) (mic frame : ℕ) where
     pub iq-room : values n ≤ length iq
     pub mic-room : slots n ≤ mic
     pub fit : allFit (take (values n) iq) ≡ true
-    pub versions-fit : versionsFit (s .versions) ≡ true
+    pub status-fits : statusFits s ≡ true
     pub listed : w ≤ 4
 
   pub good : answerOf s w n iq mic frame ≡ Accepted → Good
@@ -80,15 +80,15 @@ module _ (s : Status) (w n : ℕ) (iq : List ℤ) (mic frame : ℕ) where
   good e =
       let none = accepted-none (tests s w n iq mic frame) refl e in
       let room = neither (ltb (length iq) (values n)) (ltb mic (slots n)) (none .1 .1 .0) in
-      let word = both-true (allFit (take (values n) iq) && versionsFit (s .versions)) (leb w 4) (not-false _ (none .1 .1 .1 .0)) in
-      let values-fit = both-true (allFit (take (values n) iq)) (versionsFit (s .versions)) (word .0) in
+      let word = both-true (allFit (take (values n) iq) && statusFits s) (leb w 4) (not-false _ (none .1 .1 .1 .0)) in
+      let values-fit = both-true (allFit (take (values n) iq)) (statusFits s) (word .0) in
       record {
         is-counted = not-false _ (none .0);
         long = eqb-true _ _ (not-false _ (none .1 .0));
         iq-room = ltb-false _ _ (room .0);
         mic-room = ltb-false _ _ (room .1);
         fit = values-fit .0;
-        versions-fit = values-fit .1;
+        status-fits = values-fit .1;
         listed = leb-true w 4 (word .1);
       }
 

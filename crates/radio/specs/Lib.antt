@@ -2,3 +2,4 @@ pub mod Read
 pub mod Export
 pub mod Write
 pub mod WhichByte
+pub mod InTurn

@@ -11,7 +11,7 @@ use Rattle.wire.specs.Lists.{tabs}
 use Rattle.wire.specs.declared.Answer.{Answer}
 use Rattle.wire.specs.declared.Answer.the-variants.{BadCount, Length, ShortBuffer, Range}
 use Rattle.layout.specs.Slots.{counted, slots, padding, values}
-use Rattle.radio_status.specs.Control.{header, versionsFit}
+use Rattle.radio_status.specs.Control.{header, statusFits}
 use Rattle.radio_status.specs.declared.record.Status.{Status}
 use Rattle.radio_samples.specs.Fill.{slotBytes}
 
@@ -19,9 +19,9 @@ use Rattle.radio_samples.specs.Fill.{slotBytes}
 unfoldable pub frameOf : Status → ℕ → ℕ → List ℤ → List ℤ → List ℕ
 frameOf s w n iq mic = header s w ++ tabs (slots n) (slotBytes n iq mic) ++ replicate (padding n) 0
 
--- a needed sample, a version or a word number that does not fit
+-- a needed sample, a version, a level or a word number that does not fit
 unfoldable pub inRange : Status → ℕ → ℕ → List ℤ → Bool
-inRange s w n iq = allFit (take (values n) iq) && versionsFit (s .versions) && leb w 4
+inRange s w n iq = allFit (take (values n) iq) && statusFits s && leb w 4
 
 -- the tests once the count has its row, by the lengths of mic and of the frame that is lent; and all of them
 abbrev pub laterTests : Status → ℕ → ℕ → List ℤ → ℕ → ℕ → List Test

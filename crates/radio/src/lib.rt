@@ -4,12 +4,14 @@
 // `read` and `write` are the calls. Each takes what it is given: a receiver count, a frame, slices and a
 // record of any kind. It answers one of its refusals and leaves all as it was, or does its work. A read
 // gives every sample of the frame, says which word came, and hands back the record with that word's fields
-// in it; refused for its sync or its padding, it says which byte is wrong. A write settles every byte of the
-// frame.
+// in it; refused for its sync or its padding it says which byte is wrong, and for a level above 4,095 which level.
+// A write settles every byte of the frame.
 mod export;
 
 use layout::Layout;
 use layout::Row;
+use radio_status::levels::Levels;
+use radio_status::levels::TwoLevels;
 use radio_status::record::Status;
 use radio_status::words::Word;
 use wire::Answer;
@@ -17,13 +19,11 @@ ghost use mathlib.Core.Path.{_≡_};
 ghost use Prim.Native.Nat.{_+_, _≤_};
 ghost use lib.ListN.{length, drop};
 ghost use Rattle.wire.specs.Places.{firstOther};
-ghost use Rattle.wire.specs.declared.Answer.the-variants.{Accepted, Padding};
+ghost use Rattle.wire.specs.declared.Answer.the-variants.{Padding};
 ghost use Rattle.layout.specs.Slots.{rowOf};
 ghost use Rattle.radio_status.specs.Control.{headerOver};
-ghost use Rattle.radio_status.specs.Words.{applied};
-ghost use Rattle.radio_status.specs.declared.words.Word.the-variants.{Unlisted};
 ghost use Rattle.radio_samples.specs.Fill.{samplesOver};
-ghost use Rattle.radio.specs.Read.{readOf, gave, left, frameAnswer, byte, word};
+ghost use Rattle.radio.specs.Read.{readOf, gave, left, frameAnswer, refusal, byte, levelsIn, wordIn, acceptance};
 ghost use Rattle.radio.specs.Write.{writeOf, gave as wrote, laterAnswer};
 
 // What a read gives: the answer, the word that came, and the record after it. Refused, the word is
@@ -36,7 +36,8 @@ pub struct Reading {
 
 // Reads a frame for a number of receivers: I and Q values in slot order at the start of `iq`, one
 // microphone value a slot at the start of `mic`. Longer slices keep their remainder. Its refusals, in order:
-// BAD_COUNT, LENGTH, SHORT_BUFFER, NO_SYNC, PADDING, the last two with the first byte that is wrong.
+// BAD_COUNT, LENGTH, SHORT_BUFFER, NO_SYNC, PADDING, RESERVED, the last three with the first byte that is wrong or
+// the first level above 4,095.
 pub fn read(
     frame: &[u8],
     receivers: usize,
@@ -53,10 +54,15 @@ pub fn read(
     if wire::number(answer) != 0 {
         return refused(answer, status);
     }
-    // told before the samples are read: a record that is held across their loops makes them slower
-    let reading = accepted(frame, status);
-    radio_samples::read_samples(&frame[8..], receivers, iq, mic);
-    reading
+    match levels_in(frame) {
+        Levels::Both(levels) => {
+            // told before the samples are read: a record that is held across their loops makes them slower
+            let reading = accepted(frame, levels, status);
+            radio_samples::read_samples(&frame[8..], receivers, iq, mic);
+            reading
+        }
+        Levels::Refused(answer) => refused(answer, status),
+    }
 }
 
 // What an update gives beside the record: the answer and the word, as a read gives them.
@@ -85,7 +91,7 @@ pub fn update(
 }
 
 fn refused(answer: Answer, status: Status) -> Reading
-    ensures { λ r. ⌜ r ≡ record { answer = answer; word = Unlisted 0; status = status } ⌝ }
+    ensures { λ r. ⌜ r ≡ refusal answer status ⌝ }
 {
     Reading {
         answer,
@@ -94,11 +100,27 @@ fn refused(answer: Answer, status: Status) -> Reading
     }
 }
 
-pub(crate) fn accepted(frame: &[u8], status: Status) -> Reading
+// The levels of the frame's word, or their refusal.
+pub(crate) fn levels_in(frame: &[u8]) -> Levels
     requires { ⌜ 8 ≤ length (now frame) ⌝ }
-    ensures { λ r. ⌜ r ≡ record { answer = Accepted; word = word (now (frame .entry)); status = applied (byte (now (frame .entry)) 3) (word (now (frame .entry))) status } ⌝ }
+    ensures { λ r. ⌜ r ≡ levelsIn (now (frame .entry)) ⌝ }
 {
-    let word = radio_status::words::decode(frame[3], frame[4], frame[5], frame[6], frame[7]);
+    radio_status::levels::levels_of(frame[3], frame[4], frame[5], frame[6], frame[7])
+}
+
+// The frame's word with the levels that were read of it, and the record after it.
+pub(crate) fn accepted(frame: &[u8], levels: TwoLevels, status: Status) -> Reading
+    requires { ⌜ 8 ≤ length (now frame) ⌝ }
+    ensures { λ r. ⌜ r ≡ acceptance (byte (now (frame .entry)) 3) (wordIn (now (frame .entry)) levels) status ⌝ }
+{
+    let word = radio_status::words::decode(
+        frame[3],
+        frame[4],
+        frame[5],
+        frame[6],
+        frame[7],
+        levels,
+    );
     Reading {
         answer: Answer::Accepted,
         word,
@@ -106,7 +128,7 @@ pub(crate) fn accepted(frame: &[u8], status: Status) -> Reading
     }
 }
 
-// The first test of a frame that holds, once the receiver count has its row.
+// The first test of a frame that holds, once the receiver count has its row and before its levels are looked at.
 pub(crate) fn refusal(frame: &[u8], receivers: usize, row: Row, iq: usize, mic: usize) -> Answer
     requires { ⌜ (receivers ≤ 8) × (row ≡ rowOf receivers) ⌝ }
     ensures { λ r. ⌜ r ≡ frameAnswer (now (frame .entry)) receivers iq mic ⌝ }
@@ -195,7 +217,6 @@ pub(crate) fn write_refusal(
     requires { ⌜ (receivers ≤ 8) × (row ≡ rowOf receivers) ⌝ }
     ensures { λ r. ⌜ r ≡ laterAnswer status word receivers (now (iq .entry)) mic frame ⌝ }
 {
-    let versions = status.versions;
     let slots = row.slots;
     let needed = 2 * receivers * slots;
     if frame != 512 {
@@ -210,7 +231,7 @@ pub(crate) fn write_refusal(
     if !wire::numbers::all_fit24(&iq[..needed]) {
         return Answer::Range;
     }
-    if !radio_status::control::versions_fit(versions) {
+    if !radio_status::control::status_fits(status) {
         return Answer::Range;
     }
     if 4 < word {

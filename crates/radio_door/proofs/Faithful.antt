@@ -2,21 +2,28 @@
 -- numbers are below the widths of their fields, which a machine's record has by its types. Assumes nothing.
 use mathlib.Core.Path.{_≡_, ap, _∙_}
 use mathlib.Core.List.{List}
-use Prim.Native.Nat.{ℕ, _<_, _≤_}
+use Prim.Native.Nat.{ℕ, _^_, _<_, _≤_}
 use native.Mathlib.Nat.{mod-eq-of-lt}
 use lib.ListN.{length}
 use lib.Seq.{sets}
-use Rattle.radio_status.specs.RoundTrip.{Held}
 use Rattle.radio_status.specs.declared.record.Status.{Status}
 use Rattle.cells.proofs.Back.{flag-back, over}
 use Rattle.radio_door.specs.Status.{statusOf, statusCells}
 
 pub record StatusFits (s : Status) : Type 0 where
-  pub held : Held s
-  pub board1 : s .versions .board1 < 256
-  pub board2 : s .versions .board2 < 256
-  pub board3 : s .versions .board3 < 256
-  pub board4 : s .versions .board4 < 256
+  pub mercury : s .inputs .mercury < 2 ^ 8
+  pub penelope : s .inputs .penelope < 2 ^ 8
+  pub main : s .inputs .main < 2 ^ 8
+  pub ain5 : s .forward .ain5 < 2 ^ 16
+  pub ain1 : s .forward .ain1 < 2 ^ 16
+  pub ain2 : s .reverse .ain2 < 2 ^ 16
+  pub ain3 : s .reverse .ain3 < 2 ^ 16
+  pub ain4 : s .supply .ain4 < 2 ^ 16
+  pub ain6 : s .supply .ain6 < 2 ^ 16
+  pub board1 : s .versions .board1 < 2 ^ 8
+  pub board2 : s .versions .board2 < 2 ^ 8
+  pub board3 : s .versions .board3 < 2 ^ 8
+  pub board4 : s .versions .board4 < 2 ^ 8
 
 pub status-back : (s : Status) (cells : List ℕ) → StatusFits s → 26 ≤ length cells → statusOf (sets cells 0 (statusCells s)) ≡ s
 status-back s cells fits room = ap statusOf (over (statusCells s) cells room) ∙ (λ i.
@@ -32,12 +39,12 @@ status-back s cells fits room = ap statusOf (over (statusCells s) cells room) �
         io4 = flag-back (s .inputs .io4) i;
         pll = flag-back (s .inputs .pll) i;
         toggle = flag-back (s .inputs .toggle) i;
-        mercury = mod-eq-of-lt (fits .held .mercury) i;
-        penelope = mod-eq-of-lt (fits .held .penelope) i;
-        main = mod-eq-of-lt (fits .held .main) i;
+        mercury = mod-eq-of-lt (fits .mercury) i;
+        penelope = mod-eq-of-lt (fits .penelope) i;
+        main = mod-eq-of-lt (fits .main) i;
       };
-      forward = record { ain5 = mod-eq-of-lt (fits .held .ain5) i; ain1 = mod-eq-of-lt (fits .held .ain1) i };
-      reverse = record { ain2 = mod-eq-of-lt (fits .held .ain2) i; ain3 = mod-eq-of-lt (fits .held .ain3) i };
-      supply = record { ain4 = mod-eq-of-lt (fits .held .ain4) i; ain6 = mod-eq-of-lt (fits .held .ain6) i };
+      forward = record { ain5 = mod-eq-of-lt (fits .ain5) i; ain1 = mod-eq-of-lt (fits .ain1) i };
+      reverse = record { ain2 = mod-eq-of-lt (fits .ain2) i; ain3 = mod-eq-of-lt (fits .ain3) i };
+      supply = record { ain4 = mod-eq-of-lt (fits .ain4) i; ain6 = mod-eq-of-lt (fits .ain6) i };
       versions = record { board1 = mod-eq-of-lt (fits .board1) i; board2 = mod-eq-of-lt (fits .board2) i; board3 = mod-eq-of-lt (fits .board3) i; board4 = mod-eq-of-lt (fits .board4) i };
     })

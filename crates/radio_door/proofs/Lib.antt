@@ -3,3 +3,4 @@ pub mod LayoutCases
 pub mod RadioCases
 pub mod StatusCases
 pub mod Faithful
+pub mod NoLevelAbove

@@ -1,9 +1,9 @@
 -- The status record as 26 cells, in the order of its fields. Assumes nothing.
-use Prim.Native.Nat.{ℕ}
+use Prim.Native.Nat.{ℕ, _≤_}
 use mathlib.Core.Bool.{cond}
 use mathlib.Core.List.{List, [], _∷_}
 use lib.Dec.{leb}
-use lib.ListN.{length}
+use lib.ListN.{length, getD}
 use Rattle.cells.specs.Cells.{flag, number, cellOf}
 use Rattle.radio_status.specs.Record.{freshStatus}
 use Rattle.radio_status.specs.declared.record.Status.{Status}
@@ -50,3 +50,12 @@ statusCells s =
 -- the record that the first cells are; too few of them give a fresh one
 unfoldable pub statusIn : List ℕ → Status
 statusIn cs = cond (leb 26 (length cs)) (statusOf cs) freshStatus
+
+-- T-08, as a caller sees it: none of the six levels among the cells is above 4,095
+pub record LeveledCells (cs : List ℕ) : Type 0 where
+  pub ain5 : getD cs 16 0 ≤ 4095
+  pub ain1 : getD cs 17 0 ≤ 4095
+  pub ain2 : getD cs 18 0 ≤ 4095
+  pub ain3 : getD cs 19 0 ≤ 4095
+  pub ain4 : getD cs 20 0 ≤ 4095
+  pub ain6 : getD cs 21 0 ≤ 4095

@@ -1,7 +1,7 @@
 -- A word changes the fields it carries and no others: DOT, DASH and PTT follow every word, and whatever record a word is read
 -- into, the fields that it does not carry come out as they went in. Assumes nothing.
-use mathlib.Core.Path.{_≡_, refl}
-use Prim.Native.Nat.{ℕ, zero, suc}
+use mathlib.Core.Path.{_≡_, refl, ap}
+use Prim.Native.Nat.{ℕ, zero, suc, _≤_}
 use native.Mathlib.Omega.{arith}
 use borrow.Author.Tests.{ne-eqb}
 use Rattle.radio_status.specs.Carried.{fieldsOf, carries, unmarked}
@@ -28,6 +28,10 @@ keys-follow (Supply l) c0 s = (refl, refl, refl)
 keys-follow (Board w) c0 s = (refl, refl, refl)
 keys-follow (Unlisted a) c0 s = (refl, refl, refl)
 
+pub unlisted : (at c1 c2 c3 c4 : ℕ) → 5 ≤ at → wordAt at c1 c2 c3 c4 ≡ Unlisted at
+unlisted at c1 c2 c3 c4 past =
+    rw (ne-eqb at 0 (λ e. omega arith), ne-eqb at 1 (λ e. omega arith), ne-eqb at 2 (λ e. omega arith), ne-eqb at 3 (λ e. omega arith), ne-eqb at 4 (λ e. omega arith))
+
 -- the word that is told is the one that the frame addressed
 pub word-addressed : (at c1 c2 c3 c4 : ℕ) → wordNumber (wordAt at c1 c2 c3 c4) ≡ at
 word-addressed zero c1 c2 c3 c4 = refl
@@ -35,6 +39,4 @@ word-addressed (suc zero) c1 c2 c3 c4 = refl
 word-addressed (suc (suc zero)) c1 c2 c3 c4 = refl
 word-addressed (suc (suc (suc zero))) c1 c2 c3 c4 = refl
 word-addressed (suc (suc (suc (suc zero)))) c1 c2 c3 c4 = refl
-word-addressed (suc (suc (suc (suc (suc at))))) c1 c2 c3 c4 =
-    let a = suc (suc (suc (suc (suc at)))) in
-    rw (ne-eqb a 0 (λ e. omega arith), ne-eqb a 1 (λ e. omega arith), ne-eqb a 2 (λ e. omega arith), ne-eqb a 3 (λ e. omega arith), ne-eqb a 4 (λ e. omega arith))
+word-addressed (suc (suc (suc (suc (suc at))))) c1 c2 c3 c4 = ap wordNumber (unlisted (suc (suc (suc (suc (suc at))))) c1 c2 c3 c4 (omega arith))

@@ -10,7 +10,8 @@ use Rattle.wire.specs.Fields.{flag, bit, bits, on, pack, eightFlags}
 use Rattle.wire.specs.Numbers.{Bytes}
 use Rattle.wire.proofs.Bytes.{bytesOf-be}
 use Rattle.wire.proofs.Pack.{pack-fields, on-flag}
-use Rattle.radio_status.specs.Words.{address, inputWord, level, wordAt, carried, applied}
+use Rattle.radio_status.specs.Levels.{level}
+use Rattle.radio_status.specs.Words.{address, inputWord, wordAt, carried, applied}
 use Rattle.radio_status.specs.Control.{keyByte, inputByte, boardByte, levelBytes, wordBytes, versionsFit}
 use Rattle.radio_status.specs.declared.record.Status.{Status}
 use Rattle.radio_status.specs.declared.words.Word.{Word}

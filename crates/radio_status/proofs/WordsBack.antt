@@ -2,18 +2,22 @@
 use mathlib.Core.Path.{_≡_, refl, ap, _∙_}
 use mathlib.Core.Bool.{Bool, not, false, Bool·not-not}
 use mathlib.Core.List.{List, [], _∷_}
-use Prim.Native.Nat.{ℕ, zero, suc, _^_, _<_, _≤_}
+use Prim.Native.Nat.{ℕ, zero, suc, _/_, _%_, _≤_}
 use native.Mathlib.Nat.{mod-eq-of-lt}
 use native.Mathlib.Omega.{arith}
+use borrow.Author.Tests.{eq-eqb}
 use lib.Dec.{eqb}
 use lib.ListN.{getD}
+use Rattle.wire.specs.Answers.{first}
 use Rattle.wire.specs.Fields.{flag, bits, on, fields, eightFlags}
 use Rattle.wire.specs.Numbers.{be, bytesOf}
+use Rattle.wire.specs.declared.Answer.the-variants.{Accepted}
 use Rattle.wire.proofs.Bytes.{be-bytesOf}
 use Rattle.wire.proofs.Pack.{fields-pack, flag-on, flag-fits}
-use Rattle.radio_status.specs.RoundTrip.{wordFrom, withKeys, Held}
+use Rattle.radio_status.specs.Levels.{topBits, topSet, levelTests}
+use Rattle.radio_status.specs.RoundTrip.{wordFrom, withKeys}
 use Rattle.radio_status.specs.Words.{address, dotOf, dashOf, pttOf, keyed, wordAt}
-use Rattle.radio_status.specs.Control.{keyByte, inputByte, boardByte, wordBytes, Versioned}
+use Rattle.radio_status.specs.Control.{keyByte, inputByte, boardByte, wordBytes, Versioned, Leveled}
 use Rattle.radio_status.specs.declared.record.Status.{Status}
 use Rattle.radio_status.specs.declared.words.Word.the-variants.{Input, Forward, Reverse, Supply, Board}
 
@@ -48,8 +52,12 @@ module _ (s : Status) (w : ℕ) (listed : w ≤ 4) where
         versions = into .versions;
       }
 
-level-back : (a : ℕ) → a < 2 ^ 16 → be (bytesOf 2 a) ≡ a
-level-back a small = be-bytesOf 2 a ∙ mod-eq-of-lt small
+level-back : (a : ℕ) → a ≤ 4095 → be (bytesOf 2 a) ≡ a
+level-back a small = be-bytesOf 2 a ∙ mod-eq-of-lt (omega (arith, small))
+
+-- the first byte of a level that was written has its top four bits clear
+clear-top : (a : ℕ) → a ≤ 4095 → topSet (getD (bytesOf 2 a) 0 0) ≡ false
+clear-top a small = rw (eq-eqb (topBits (a / 256 % 256)) 0 (omega (arith, small)))
 
 -- the flags of a byte of eight
 module _ (b0 b1 b2 b3 b4 b5 b6 b7 : Bool) where
@@ -72,7 +80,7 @@ abbrev flags-of : Status → List ℕ
 flags-of s =
     flag (s .overflow .adc1) ∷ flag (not (s .inputs .io1)) ∷ flag (not (s .inputs .io2)) ∷ flag (not (s .inputs .io3)) ∷ flag (not (s .inputs .io4)) ∷ flag (s .inputs .pll) ∷ flag (s .inputs .toggle) ∷ 0 ∷ []
 
-module _ (s : Status) (h : Held s) (v : Versioned (s .versions)) where
+module _ (s : Status) (v : Versioned (s .versions)) (l : Leveled s) where
   -- word 0's C1, whose bit 7 is 0
   c1 : (k : ℕ) (b : Bool) → getD (flags-of s) k 0 ≡ flag b → eqb (getD (fields (1 ∷ 1 ∷ 1 ∷ 1 ∷ 1 ∷ 1 ∷ 1 ∷ 1 ∷ []) (inputByte (s .overflow .adc1) (s .inputs))) k 0) 1 ≡ b
   c1 k b is = ap (λ l. eqb (getD l k 0) 1) (all-eight (s .overflow .adc1) (not (s .inputs .io1)) (not (s .inputs .io2)) (not (s .inputs .io3)) (not (s .inputs .io4)) (s .inputs .pll) (s .inputs .toggle) false) ∙ ap (λ d. eqb d 1) is ∙ flag-on b
@@ -98,9 +106,9 @@ module _ (s : Status) (h : Held s) (v : Versioned (s .versions)) where
           main = s .inputs .main;
         };
       })
-  word-back (suc zero) listed = λ i. Forward (record { ain5 = level-back (s .forward .ain5) (h .ain5) i; ain1 = level-back (s .forward .ain1) (h .ain1) i })
-  word-back (suc (suc zero)) listed = λ i. Reverse (record { ain2 = level-back (s .reverse .ain2) (h .ain2) i; ain3 = level-back (s .reverse .ain3) (h .ain3) i })
-  word-back (suc (suc (suc zero))) listed = λ i. Supply (record { ain4 = level-back (s .supply .ain4) (h .ain4) i; ain6 = level-back (s .supply .ain6) (h .ain6) i })
+  word-back (suc zero) listed = λ i. Forward (record { ain5 = level-back (s .forward .ain5) (l .ain5) i; ain1 = level-back (s .forward .ain1) (l .ain1) i })
+  word-back (suc (suc zero)) listed = λ i. Reverse (record { ain2 = level-back (s .reverse .ain2) (l .ain2) i; ain3 = level-back (s .reverse .ain3) (l .ain3) i })
+  word-back (suc (suc (suc zero))) listed = λ i. Supply (record { ain4 = level-back (s .supply .ain4) (l .ain4) i; ain6 = level-back (s .supply .ain6) (l .ain6) i })
   word-back (suc (suc (suc (suc zero)))) listed =
       λ i. Board (record {
         overflow = record {
@@ -117,3 +125,13 @@ module _ (s : Status) (h : Held s) (v : Versioned (s .versions)) where
         };
       })
   word-back (suc (suc (suc (suc (suc w))))) listed = absurd (omega arith)
+
+  -- and none of its levels is refused
+  pub levels-pass : (w : ℕ) → w ≤ 4 → first (levelTests w (getD (wordBytes s w) 0 0) (getD (wordBytes s w) 2 0)) ≡ Accepted
+  unfolding wordBytes
+  levels-pass zero listed = refl
+  levels-pass (suc zero) listed = rw (clear-top (s .forward .ain5) (l .ain5), clear-top (s .forward .ain1) (l .ain1))
+  levels-pass (suc (suc zero)) listed = rw (clear-top (s .reverse .ain2) (l .ain2), clear-top (s .reverse .ain3) (l .ain3))
+  levels-pass (suc (suc (suc zero))) listed = rw (clear-top (s .supply .ain4) (l .ain4), clear-top (s .supply .ain6) (l .ain6))
+  levels-pass (suc (suc (suc (suc zero)))) listed = refl
+  levels-pass (suc (suc (suc (suc (suc w))))) listed = absurd (omega arith)

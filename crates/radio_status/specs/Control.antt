@@ -50,14 +50,34 @@ header s w = headerOf (keyByte s w) (wordBytes s w)
 abbrev pub versionsFit : Versions → Bool
 versionsFit v = leb (v .board1) 127 && leb (v .board2) 127 && leb (v .board3) 127 && leb (v .board4) 127
 
--- the same, as a writer of word 4 asks it
+-- T-08: "RANGE on writing one above 4,095", any of the six
+abbrev pub levelsFit : Status → Bool
+levelsFit s =
+    leb (s .forward .ain5) 4095 && leb (s .forward .ain1) 4095
+    && leb (s .reverse .ain2) 4095 && leb (s .reverse .ain3) 4095
+    && leb (s .supply .ain4) 4095 && leb (s .supply .ain6) 4095
+
+-- a record that can be written, whichever word is due
+abbrev pub statusFits : Status → Bool
+statusFits s = versionsFit (s .versions) && levelsFit s
+
+-- of the versions, as a writer of word 4 asks it
 pub record Versioned (v : Versions) : Type 0 where
   pub first : v .board1 ≤ 127
   pub second : v .board2 ≤ 127
   pub third : v .board3 ≤ 127
   pub fourth : v .board4 ≤ 127
 
--- the header of word w over the start of a frame; with "a version .. above 127", or "a radio word to write outside 0 to 4", the
+-- of the levels, as a reader is promised them
+pub record Leveled (s : Status) : Type 0 where
+  pub ain5 : s .forward .ain5 ≤ 4095
+  pub ain1 : s .forward .ain1 ≤ 4095
+  pub ain2 : s .reverse .ain2 ≤ 4095
+  pub ain3 : s .reverse .ain3 ≤ 4095
+  pub ain4 : s .supply .ain4 ≤ 4095
+  pub ain6 : s .supply .ain6 ≤ 4095
+
+-- the header of word w over the start of a frame; with a record that cannot be written, or "a radio word to write outside 0 to 4", the
 -- frame as it was
 unfoldable pub headerOver : Status → ℕ → List ℕ → List ℕ
-headerOver s w frame = cond (versionsFit (s .versions) && leb w 4) (headed (keyByte s w) (wordBytes s w) frame) frame
+headerOver s w frame = cond (statusFits s && leb w 4) (headed (keyByte s w) (wordBytes s w) frame) frame

@@ -1,4 +1,5 @@
 pub mod Record
+pub mod Levels
 pub mod Words
 pub mod Carried
 pub mod Control

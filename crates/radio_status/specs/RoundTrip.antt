@@ -1,5 +1,5 @@
 -- What document 01's "Reading what was written" and "Writing what was read" speak of. Assumes nothing.
-use Prim.Native.Nat.{ℕ, zero, suc, _^_, _<_}
+use Prim.Native.Nat.{ℕ, zero, suc}
 use Rattle.radio_status.specs.Words.{holding}
 use Rattle.radio_status.specs.declared.record.Status.{Status}
 use Rattle.radio_status.specs.declared.words.Word.{Word}
@@ -16,15 +16,3 @@ wordFrom s (suc (suc (suc (suc w)))) = Board (record { overflow = s .overflow; v
 -- a record with the keys of another
 abbrev pub withKeys : Status → Status → Status
 withKeys keys s = holding keys (s .overflow) (s .inputs) (s .forward) (s .reverse) (s .supply) (s .versions)
-
--- the numbers of a record are those of its types: serial numbers of 8 bits, levels of 16
-pub record Held (s : Status) : Type 0 where
-  pub mercury : s .inputs .mercury < 2 ^ 8
-  pub penelope : s .inputs .penelope < 2 ^ 8
-  pub main : s .inputs .main < 2 ^ 8
-  pub ain5 : s .forward .ain5 < 2 ^ 16
-  pub ain1 : s .forward .ain1 < 2 ^ 16
-  pub ain2 : s .reverse .ain2 < 2 ^ 16
-  pub ain3 : s .reverse .ain3 < 2 ^ 16
-  pub ain4 : s .supply .ain4 < 2 ^ 16
-  pub ain6 : s .supply .ain6 < 2 ^ 16

@@ -1,10 +1,10 @@
 -- Document 01, "Words from the radio", line by line. Assumes nothing.
 use Prim.Native.Nat.{ℕ}
 use mathlib.Core.Bool.{Bool, cond, not}
-use mathlib.Core.List.{[], _∷_}
 use lib.Dec.{eqb}
 use Rattle.wire.specs.Fields.{bits, on}
-use Rattle.wire.specs.Numbers.{be}
+use Rattle.radio_status.specs.Levels.{inPairs}
+use Rattle.radio_status.specs.declared.levels.TwoLevels.{TwoLevels}
 use Rattle.radio_status.specs.declared.record.Status.{Status}
 use Rattle.radio_status.specs.declared.record.Overflow.{Overflow}
 use Rattle.radio_status.specs.declared.record.Inputs.{Inputs}
@@ -30,10 +30,6 @@ dashOf c0 = on c0 1
 abbrev pub pttOf : ℕ → Bool
 pttOf c0 = on c0 0
 
--- "All six levels are kept as 16-bit numbers"
-abbrev pub level : ℕ → ℕ → ℕ
-level high low = be (high ∷ low ∷ [])
-
 -- "0: C1 bit 0 ADC 1 overflow; bits 1 to 4 inputs IO1 to IO4, active when the bit is 0; bit 5 PLL locked; bit 6 the
 -- frequency-changed toggle, kept as a bit. C2, C3, C4: Mercury, Penelope and main board serial numbers." Bit 7 is ignored.
 abbrev pub inputWord : ℕ → ℕ → ℕ → ℕ → InputWord
@@ -54,16 +50,16 @@ inputWord c1 c2 c3 c4 =
     }
 
 -- "1: C1C2 forward power AIN5; C3C4 forward power AIN1."
-abbrev pub forwardLevels : ℕ → ℕ → ℕ → ℕ → ForwardLevels
-forwardLevels c1 c2 c3 c4 = record { ain5 = level c1 c2; ain1 = level c3 c4 }
+abbrev pub forwardLevels : TwoLevels → ForwardLevels
+forwardLevels two = record { ain5 = two .c1c2; ain1 = two .c3c4 }
 
 -- "2: C1C2 reverse power AIN2; C3C4 AIN3."
-abbrev pub reverseLevels : ℕ → ℕ → ℕ → ℕ → ReverseLevels
-reverseLevels c1 c2 c3 c4 = record { ain2 = level c1 c2; ain3 = level c3 c4 }
+abbrev pub reverseLevels : TwoLevels → ReverseLevels
+reverseLevels two = record { ain2 = two .c1c2; ain3 = two .c3c4 }
 
 -- "3: C1C2 AIN4; C3C4 AIN6."
-abbrev pub supplyLevels : ℕ → ℕ → ℕ → ℕ → SupplyLevels
-supplyLevels c1 c2 c3 c4 = record { ain4 = level c1 c2; ain6 = level c3 c4 }
+abbrev pub supplyLevels : TwoLevels → SupplyLevels
+supplyLevels two = record { ain4 = two .c1c2; ain6 = two .c3c4 }
 
 -- "4: C1 to C4, boards 1 to 4: bit 0 overflow, bits 7-1 version (0 to 127)."
 abbrev pub boardWord : ℕ → ℕ → ℕ → ℕ → BoardWord
@@ -74,14 +70,17 @@ boardWord c1 c2 c3 c4 =
     }
 
 -- "one choice among six (the five words, each with its own contents, or unlisted with its address)"
-abbrev pub wordAt : ℕ → ℕ → ℕ → ℕ → ℕ → Word
-wordAt at c1 c2 c3 c4 =
+abbrev pub wordWith : TwoLevels → ℕ → ℕ → ℕ → ℕ → ℕ → Word
+wordWith two at c1 c2 c3 c4 =
     cond (eqb at 0) (Input (inputWord c1 c2 c3 c4))
-    (cond (eqb at 1) (Forward (forwardLevels c1 c2 c3 c4))
-    (cond (eqb at 2) (Reverse (reverseLevels c1 c2 c3 c4))
-    (cond (eqb at 3) (Supply (supplyLevels c1 c2 c3 c4))
+    (cond (eqb at 1) (Forward (forwardLevels two))
+    (cond (eqb at 2) (Reverse (reverseLevels two))
+    (cond (eqb at 3) (Supply (supplyLevels two))
     (cond (eqb at 4) (Board (boardWord c1 c2 c3 c4))
     (Unlisted at)))))
+
+abbrev pub wordAt : ℕ → ℕ → ℕ → ℕ → ℕ → Word
+wordAt at c1 c2 c3 c4 = wordWith (inPairs c1 c2 c3 c4) at c1 c2 c3 c4
 
 abbrev pub wordOf : ℕ → ℕ → ℕ → ℕ → ℕ → Word
 wordOf c0 c1 c2 c3 c4 = wordAt (address c0) c1 c2 c3 c4

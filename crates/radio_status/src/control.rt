@@ -9,15 +9,14 @@ use wire::numbers::bytes_of_u16;
 use wire::sync::put_header;
 ghost use mathlib.Core.Path.{_≡_};
 ghost use Prim.Native.Nat.{_≤_};
-ghost use Rattle.radio_status.specs.Control.{keyByte, inputBytes, boardByte, boardBytes, levelBytes, Versioned, versionsFit, wordBytes, headerOver};
+ghost use Rattle.radio_status.specs.Control.{keyByte, inputBytes, boardByte, boardBytes, levelBytes, Versioned, versionsFit, levelsFit, statusFits, wordBytes, headerOver};
 
-// Sync and C0 to C4 over the start of a frame. With a version above 127, or a word number above 4, the
-// frame is left as it is, and so is one with no room for them.
+// Sync and C0 to C4 over the start of a frame. With a version above 127, a level above 4,095 or a word number
+// above 4, the frame is left as it is, and so is one with no room for them.
 pub fn write_header(status: Status, word: u8, frame: &mut [u8])
     ensures { λ r. ⌜ now (frame .exit) ≡ headerOver status word (now (frame .entry)) ⌝ }
 {
-    let versions = status.versions;
-    if !versions_fit(versions) {
+    if !status_fits(status) {
         return;
     }
     if 4 < word {
@@ -94,7 +93,7 @@ pub(crate) fn board_byte(overflow: bool, version: u8) -> u8
 }
 
 // Whether the version of each board fits its seven bits.
-pub fn versions_fit(versions: Versions) -> bool
+pub(crate) fn versions_fit(versions: Versions) -> bool
     ensures { λ r. ⌜ r ≡ versionsFit versions ⌝ }
 {
     if 127 < versions.board1 {
@@ -107,4 +106,31 @@ pub fn versions_fit(versions: Versions) -> bool
         return false;
     }
     versions.board4 <= 127
+}
+
+// Whether each of the six levels fits its twelve bits.
+pub(crate) fn levels_fit(status: Status) -> bool
+    ensures { λ r. ⌜ r ≡ levelsFit status ⌝ }
+{
+    let forward = status.forward;
+    let reverse = status.reverse;
+    let supply = status.supply;
+    (forward.ain5 <= 4095)
+        & (forward.ain1 <= 4095)
+        & (reverse.ain2 <= 4095)
+        & (reverse.ain3 <= 4095)
+        & (supply.ain4 <= 4095)
+        & (supply.ain6 <= 4095)
+}
+
+// Whether a frame can carry every word of the record.
+pub fn status_fits(status: Status) -> bool
+    ensures { λ r. ⌜ r ≡ statusFits status ⌝ }
+{
+    let versions = status.versions;
+    if versions_fit(versions) {
+        levels_fit(status)
+    } else {
+        false
+    }
 }

@@ -1,4 +1,5 @@
 // The words from the radio: decoding the five control bytes, and the record after a word.
+use crate::levels::TwoLevels;
 use crate::record::ForwardLevels;
 use crate::record::Inputs;
 use crate::record::Overflow;
@@ -6,9 +7,8 @@ use crate::record::ReverseLevels;
 use crate::record::Status;
 use crate::record::SupplyLevels;
 use crate::record::Versions;
-use wire::numbers::be16;
 ghost use mathlib.Core.Path.{_≡_};
-ghost use Rattle.radio_status.specs.Words.{wordOf, inputWord, boardWord, carried, applied};
+ghost use Rattle.radio_status.specs.Words.{address, wordWith, inputWord, boardWord, carried, applied};
 
 // Word 0 as it came: ADC 1's overflow, and the rest.
 pub struct InputWord {
@@ -32,23 +32,24 @@ pub enum Word {
     Unlisted(u8),
 }
 
-pub fn decode(c0: u8, c1: u8, c2: u8, c3: u8, c4: u8) -> Word
-    ensures { λ r. ⌜ r ≡ wordOf c0 c1 c2 c3 c4 ⌝ }
+// The word that came. Of words 1 to 3 it has the levels that were read of their bytes.
+pub fn decode(c0: u8, c1: u8, c2: u8, c3: u8, c4: u8, levels: TwoLevels) -> Word
+    ensures { λ r. ⌜ r ≡ wordWith levels (address c0) c1 c2 c3 c4 ⌝ }
 {
     let address = c0 / 8 % 32;
     match address {
         0 => Word::Input(input_word(c1, c2, c3, c4)),
         1 => Word::Forward(ForwardLevels {
-            ain5: be16(c1, c2),
-            ain1: be16(c3, c4),
+            ain5: levels.c1c2,
+            ain1: levels.c3c4,
         }),
         2 => Word::Reverse(ReverseLevels {
-            ain2: be16(c1, c2),
-            ain3: be16(c3, c4),
+            ain2: levels.c1c2,
+            ain3: levels.c3c4,
         }),
         3 => Word::Supply(SupplyLevels {
-            ain4: be16(c1, c2),
-            ain6: be16(c3, c4),
+            ain4: levels.c1c2,
+            ain6: levels.c3c4,
         }),
         4 => Word::Board(board_word(c1, c2, c3, c4)),
         _ => Word::Unlisted(address),

@@ -9,3 +9,4 @@ pub mod Untouched
 pub mod GoodFrames
 pub mod WhichByte
 pub mod Settled
+pub mod NoLevelAbove

@@ -1,5 +1,6 @@
 -- The byte that a refused transfer names is one of the frame after those that were read: it is wrong, and every byte before it, among those of
--- that frame that are tested, is right; and no other answer names one. Assumes nothing.
+-- that frame that are tested, is right; the level that it names is that frame's first above 4,095; and no other answer names one. Assumes
+-- nothing.
 use mathlib.Core.Path.{_≡_, refl, sym, ap, subst⁻¹}
 use mathlib.Core.Bool.{Bool, true, false, not, _||_}
 use mathlib.Core.List.{List, [], _∷_}
@@ -38,7 +39,8 @@ tells-none frame n a few =
     record {
       sync = λ is. absurd (omega (arith, few, is));
       padding = λ is. absurd (omega (arith, few, is));
-      none = λ _ _. no-place a (λ is. omega (arith, few, is)) (λ is. omega (arith, few, is)) (λ is. omega (arith, few, is));
+      level = λ is. absurd (omega (arith, few, is));
+      none = λ _ _ _. no-place a (λ is. omega (arith, few, is)) (λ is. omega (arith, few, is)) (λ is. omega (arith, few, is));
     }
 
 module _ (input : List ℕ) (n : ℕ) (iq mic : List ℤ) (s : Status) where

@@ -30,7 +30,7 @@ pub struct Transfer {
 // Reads the frames of a transfer for a number of receivers. Each frame's values stand behind those of the
 // frames before it, as a single read gives them: I and Q in slot order in `iq`, one microphone value a slot in
 // `mic`. Longer slices keep their remainder. Its refusals, in order: BAD_COUNT, LENGTH, SHORT_BUFFER, all
-// before any frame is read; then those of the first frame that is refused, NO_SYNC and PADDING.
+// before any frame is read; then those of the first frame that is refused, NO_SYNC, PADDING and RESERVED.
 pub fn read(
     input: &[u8],
     receivers: usize,

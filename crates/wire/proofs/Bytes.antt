@@ -1,4 +1,4 @@
--- A number and its bytes, there and back, over the number of bytes. Assumes nothing.
+-- A number and its bytes, there and back, over the number of bytes; and parts of a list of bytes. Assumes nothing.
 use mathlib.Core.Path.{_≡_, refl, sym, ap, ap₂, _∙_}
 use mathlib.Core.List.{List, [], _∷_}
 use Prim.Native.Nat.{ℕ, zero, suc, _+_, _*_, _/_, _%_, _^_, _<_}
@@ -6,8 +6,10 @@ use native.Mathlib.Nat.{mul-assoc, mul-add-div-right, mul-add-mod-self-right, mo
 use native.Mathlib.Omega.{arith}
 use lib.Arith.{mod-mul, digits-lt, digits-div}
 use lib.IntN.{ℤ}
-use lib.ListN.{length, getD}
+use lib.ListN.{length, getD, take, drop, length-take, List·getD-eq-default}
+use lib.Seq.{getD-take, getD-drop}
 use lib.Signed.{mag}
+use Rattle.wire.proofs.Cases.{by-order}
 use Rattle.wire.proofs.Signed.{back-to-number, back-to-pattern, pattern-fits}
 use Rattle.wire.specs.Numbers.{be, bytesOf, signedBy, unsignedBy, Bytes}
 
@@ -59,3 +61,13 @@ module _ (k half : ℕ) (whole : half + half ≡ 256 ^ k) where
   bytes-back bs long small =
       let low : be bs < half + half = rw (whole, ← long) (be-fits bs small) in
       rw (back-to-pattern half (be bs) low, ← long) (bytesOf-be bs small)
+
+-- parts of a list of bytes
+pub bytes-drop : (n : ℕ) (s : List ℕ) → Bytes s → Bytes (drop n s)
+bytes-drop n s small i = rw (getD-drop n s i 0) (small (n + i))
+
+pub bytes-take : (n : ℕ) (s : List ℕ) → Bytes s → Bytes (take n s)
+bytes-take n s small i =
+    by-order i n
+    (λ below. rw (getD-take n s i 0 below) (small i))
+    (λ above. rw (List·getD-eq-default (take n s) 0 {n = i} (omega (arith, length-take n s))) (omega arith))

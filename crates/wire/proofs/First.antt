@@ -1,6 +1,6 @@
 -- The first test that holds: its two cases, and what an accepted call knows of every test. Assumes nothing.
 use mathlib.Core.Path.{_≡_, refl, sym, ap, _∙_}
-use mathlib.Core.Bool.{Bool, true, false, _||_}
+use mathlib.Core.Bool.{Bool, true, false, _||_, true≢false}
 use mathlib.Core.List.{List, [], _∷_, _++_, map, append-nil}
 use Prim.Native.Nat.{ℕ, _≤_}
 use native.Mathlib.Nat.{le-trans}
@@ -43,6 +43,15 @@ none-from k (t ∷ ts) some order e =
 -- a call that is accepted passed every test
 pub accepted-none : (ts : List Test) → inOrder ts ≡ true → first ts ≡ Accepted → None ts
 accepted-none ts order e = none-from 1 ts (omega arith) order e
+
+-- of tests in two parts: one of the first holds, or none does
+pub first-before : (before after : List Test) → accepts (first before) ≡ false → first (before ++ after) ≡ first before
+first-before [] after refused = absurd (true≢false refused)
+first-before (t ∷ ts) after refused = by-test (t .holds) (λ held. rw held) (λ passed. rw passed (first-before ts after (rw passed at refused)))
+
+pub first-after : (before after : List Test) → None before → first (before ++ after) ≡ first after
+first-after [] after none = refl
+first-after (t ∷ ts) after none = first-later t (ts ++ after) (none .0) ∙ first-after ts after (none .1)
 
 -- one of the tests gives the refusal of a number
 abbrev pub mentions : ℕ → List Test → Bool

@@ -10,6 +10,7 @@ pub mod Header
 pub mod Everywhere
 pub mod FirstWrong
 pub mod Named
+pub mod Causes
 pub mod Lists
 pub mod Fill
 pub mod Laid

@@ -1,21 +1,14 @@
 -- Document 01, "Nine refusals, in the order they are tested": their numbers, what each carries (T-02), and the first that holds.
 -- Assumes nothing.
-use Prim.Native.Nat.{ℕ, _+_, _*_}
-use mathlib.Core.Bool.{Bool, true, cond, _&&_}
-use mathlib.Core.List.{List, [], _∷_}
+use Prim.Native.Nat.{ℕ, _+_, _*_, _<_}
+use mathlib.Core.Path.{_≡_}
+use mathlib.Core.Bool.{Bool, true, false, cond, _&&_}
+use mathlib.Core.List.{List, [], _∷_, map}
 use lib.Dec.{eqb, leb}
+use Rattle.wire.specs.Causes.{causes, causeNumber}
 use Rattle.wire.specs.declared.Answer.{Answer}
 use Rattle.wire.specs.declared.Cause.{Cause}
-use Rattle.wire.specs.declared.Cause.the-variants.{Source10, Relay, Word9C4Bit7, Word10C1Bit7}
 use Rattle.wire.specs.declared.Answer.the-variants.{Accepted, BadState, BadCount, Length, ShortBuffer, StreamFull, NoSync, Padding, Reserved, Range}
-
--- T-02: "whether it was the 10 MHz source, the transmit relay or word 9's C4 bit 7, in that order", and T-07: word 10's C1 bit 7
--- "placed after T-02's three"
-abbrev pub causeNumber : Cause → ℕ
-causeNumber Source10 = 1
-causeNumber Relay = 2
-causeNumber Word9C4Bit7 = 3
-causeNumber Word10C1Bit7 = 4
 
 -- The table, and T-02: "each of the three now carries its place", a byte of the frame from 0, or the number of the cause. No other answer
 -- carries anything: its place is 0.
@@ -70,3 +63,14 @@ from k (t ∷ ts) = leb k (numberOf (t .answer)) && from (numberOf (t .answer)) 
 
 abbrev pub inOrder : List Test → Bool
 inOrder ts = from 1 ts
+
+-- T-02: the first cause that is set is the one that RESERVED names
+abbrev pub reserving : (Cause → Bool) → List Test
+reserving isSet = map (λ cause. isSet cause gives Reserved cause) causes
+
+-- what is promised of a cause that is named: it is set, and none before it is
+pub record CauseNamed (isSet : Cause → Bool) (answer : Answer) : Type 0 where
+  pub cause : Cause
+  pub is : answer ≡ Reserved cause
+  pub set : isSet cause ≡ true
+  pub none-before : (other : Cause) → causeNumber other < causeNumber cause → isSet other ≡ false

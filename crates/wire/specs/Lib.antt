@@ -1,3 +1,4 @@
+pub mod Causes
 pub mod Answers
 pub mod Numbers
 pub mod Fields

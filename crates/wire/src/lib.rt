@@ -10,7 +10,8 @@ pub mod zeros;
 
 ghost use mathlib.Core.Path.{_≡_};
 ghost use Prim.Native.Nat.{_+_, _*_, _≤_};
-ghost use Rattle.wire.specs.Answers.{numberOf, placeOf, causeNumber, told};
+ghost use Rattle.wire.specs.Answers.{numberOf, placeOf, told};
+ghost use Rattle.wire.specs.Causes.{causeNumber};
 
 // What a call answers: it is accepted, or one of the nine refusals, in the order they are tested. Three of
 // them carry their place: the byte of the frame, from 0, that is wrong, or the cause.
@@ -27,13 +28,20 @@ pub enum Answer {
     Range,
 }
 
-// The unassigned codes and bits, in the order they are tested: word 0's 10 MHz source and its transmit
-// relay, word 9's C4 bit 7, word 10's C1 bit 7.
+// What is refused as RESERVED, in the order it is tested. Of a host frame the unassigned codes and bits: word
+// 0's 10 MHz source and its transmit relay, word 9's C4 bit 7, word 10's C1 bit 7. Of a radio frame the levels
+// above twelve bits: word 1's AIN5 and AIN1, word 2's AIN2 and AIN3, word 3's AIN4 and AIN6.
 pub enum Cause {
     Source10,
     Relay,
     Word9C4Bit7,
     Word10C1Bit7,
+    Ain5,
+    Ain1,
+    Ain2,
+    Ain3,
+    Ain4,
+    Ain6,
 }
 
 // The number that a report prints for an answer: 0, or the refusal's.
@@ -80,6 +88,12 @@ pub(crate) fn cause_number(cause: Cause) -> u16
         Cause::Relay => 2,
         Cause::Word9C4Bit7 => 3,
         Cause::Word10C1Bit7 => 4,
+        Cause::Ain5 => 5,
+        Cause::Ain1 => 6,
+        Cause::Ain2 => 7,
+        Cause::Ain3 => 8,
+        Cause::Ain4 => 9,
+        Cause::Ain6 => 10,
     }
 }
 

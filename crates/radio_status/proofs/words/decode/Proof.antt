@@ -7,24 +7,6 @@ use Rattle.radio_status.proofs.words.decode.Tie as tie
 input-word-requires : tie.Need-input-word-requires
 input-word-requires c κs = search needs
 
-be16-requires : tie.Need-be16-requires
-be16-requires c κs = search needs
-
-be16-requires-2 : tie.Need-be16-requires-2
-be16-requires-2 c κs = search needs
-
-be16-requires-3 : tie.Need-be16-requires-3
-be16-requires-3 c κs = search needs
-
-be16-requires-4 : tie.Need-be16-requires-4
-be16-requires-4 c κs = search needs
-
-be16-requires-5 : tie.Need-be16-requires-5
-be16-requires-5 c κs = search needs
-
-be16-requires-6 : tie.Need-be16-requires-6
-be16-requires-6 c κs = search needs
-
 board-word-requires : tie.Need-board-word-requires
 board-word-requires c κs = search needs
 
@@ -32,13 +14,13 @@ returns : tie.Need-returns
 returns c = rw (c .before .match .keys1, c .input-word .ensures)
 
 returns-2 : tie.Need-returns-2
-returns-2 c = rw (c .before .before .match .keys2, c .before .be16 .ensures, c .be162 .ensures)
+returns-2 c = rw (c .match .keys2)
 
 returns-3 : tie.Need-returns-3
-returns-3 c = rw (c .before .before .match .keys3, c .before .be163 .ensures, c .be164 .ensures)
+returns-3 c = rw (c .match .keys3)
 
 returns-4 : tie.Need-returns-4
-returns-4 c = rw (c .before .before .match .keys4, c .before .be165 .ensures, c .be166 .ensures)
+returns-4 c = rw (c .match .keys4)
 
 returns-5 : tie.Need-returns-5
 returns-5 c = rw (c .before .match .keys5, c .board-word .ensures)
@@ -50,19 +32,4 @@ returns-6 c =
 
 pub decode-spec : {M : Type 1} → statement M
 decode-spec =
-    tie.close
-    (tie.spec
-    input-word-requires
-    be16-requires
-    be16-requires-2
-    be16-requires-3
-    be16-requires-4
-    be16-requires-5
-    be16-requires-6
-    board-word-requires
-    returns
-    returns-2
-    returns-3
-    returns-4
-    returns-5
-    returns-6)
+    tie.close (tie.spec input-word-requires board-word-requires returns returns-2 returns-3 returns-4 returns-5 returns-6)

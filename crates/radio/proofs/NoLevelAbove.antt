@@ -1,0 +1,49 @@
+-- T-08: no level above 4,095 comes out of a read. A record that has none keeps having none, whatever is read into it and however often; and
+-- a fresh record has none. Assumes nothing.
+use mathlib.Core.Path.{_≡_, refl, ap, subst⁻¹}
+use mathlib.Core.List.{List, [], _∷_}
+use Prim.Native.Nat.{ℕ}
+use native.Mathlib.Omega.{arith}
+use lib.IntN.{ℤ}
+use lib.ListN.{length}
+use Rattle.wire.specs.Answers.{accepts}
+use Rattle.wire.specs.Numbers.{Bytes}
+use Rattle.wire.proofs.Cases.{by-test}
+use Rattle.wire.proofs.First.{accepts-only}
+use Rattle.radio_status.specs.Control.{Leveled}
+use Rattle.radio_status.specs.Record.{freshStatus}
+use Rattle.radio_status.specs.Words.{address}
+use Rattle.radio_status.specs.declared.record.Status.{Status}
+use Rattle.radio_status.proofs.TwelveBits.{levels-applied}
+use Rattle.radio.specs.InTurn.{Call, statusAfter, OfBytes}
+use Rattle.radio.specs.Read.{byte, levelAnswer, answerOf, readOf, left, Outcome}
+use Rattle.radio.specs.declared.Updated.{Updated}
+use Rattle.radio.proofs.Cases.{good, read-taken, read-refused}
+
+-- one read, accepted or refused
+pub levels-stay : (frame : List ℕ) (n : ℕ) (iq mic : List ℤ) (s : Status) → Bytes frame → Leveled s → Leveled (readOf frame n iq mic s .reading .status)
+unfolding levelAnswer
+levels-stay frame n iq mic s small leveled =
+    let answer = answerOf frame n (length iq) (length mic) in
+    by-test (accepts answer)
+    (λ is.
+    let accepted = accepts-only answer is in
+    let passed = good frame n (length iq) (length mic) accepted in
+    subst⁻¹ (λ (o : Outcome). Leveled (o .reading .status)) (read-taken frame n iq mic s accepted)
+    (levels-applied (byte frame 4) (byte frame 5) (byte frame 6) (byte frame 7) (small 4) (small 5) (small 6) (small 7) (address (byte frame 3)) (passed .leveled) (byte frame 3) s leveled))
+    (λ isn't. subst⁻¹ (λ (o : Outcome). Leveled (o .reading .status)) (read-refused frame n iq mic s answer refl isn't) leveled)
+
+-- and so of the record that an update leaves, since its contract is the same equation
+pub update-levels-stay : (frame : List ℕ) (n : ℕ) (iq mic : List ℤ) (s : Status) (r : Updated) (s₁ : Status) (iq₁ mic₁ : List ℤ) → left r s₁ iq₁ mic₁ ≡ readOf frame n iq mic s → Bytes frame → Leveled s → Leveled s₁
+update-levels-stay frame n iq mic s r s₁ iq₁ mic₁ gave small leveled = subst⁻¹ Leveled (ap (λ (o : Outcome). o .reading .status) gave) (levels-stay frame n iq mic s small leveled)
+
+-- reads one after another
+pub all-levels-stay : (calls : List Call) (s : Status) → OfBytes calls → Leveled s → Leveled (statusAfter calls s)
+all-levels-stay [] s small leveled = leveled
+all-levels-stay (c ∷ cs) s small leveled = all-levels-stay cs _ (small .1) (levels-stay (c .frame) (c .receivers) (c .iq) (c .mic) s (small .0) leveled)
+
+pub fresh-leveled : Leveled freshStatus
+fresh-leveled = record { ain5 = omega arith; ain1 = omega arith; ain2 = omega arith; ain3 = omega arith; ain4 = omega arith; ain6 = omega arith }
+
+pub no-level-above-4095 : (calls : List Call) → OfBytes calls → Leveled (statusAfter calls freshStatus)
+no-level-above-4095 calls small = all-levels-stay calls freshStatus small fresh-leveled
