@@ -24,14 +24,16 @@
  * record has are left alone. A field has two limits. Beyond its cell (a flag above 1, a code past the last, a number
  * that no cell of that field holds) every call that looks at the record refuses it as BAD_STATE, before all else.
  * Beyond its frame (a number that the cell holds and a frame does not) a call that writes a frame refuses it as RANGE,
- * whichever word the frame carries, and a call that reads a frame does not refuse it. Each struct says which is which.
- * A call that only writes a record, `hpsdr_layout` or a `_fresh` one, does not look at what stands there.
+ * whichever word the frame carries, and a call that reads a frame does not refuse a record for it. Each struct says
+ * which is which. A call that only writes a record, `hpsdr_layout` or a `_fresh` one, does not look at what stands
+ * there.
  *
  * What a call returns has three parts. Bits 7 to 0 are its answer. Bits 15 to 8 are what it found, where it says so; on
  * a refusal it found 0, but for the frames that `hpsdr_radio_read_transfer` read before the refused one. Bits 31 to 16
  * are the place, beside the three refusals that have one: NO_SYNC and PADDING name a byte of the frame, counted from 0,
- * and RESERVED an `enum hpsdr_cause`; beside every other answer they are 0. So an accepted call that found something
- * does not return 0, and a refusal is not always its number alone: ask `hpsdr_answer_of`.
+ * and RESERVED an `enum hpsdr_cause`, which is a code or bit of a host frame or a level of a radio frame; beside every
+ * other answer they are 0. So an accepted call that found something does not return 0, and a refusal is not always its
+ * number alone: ask `hpsdr_answer_of`.
  */
 #ifndef HPSDR_H
 #define HPSDR_H
@@ -58,13 +60,21 @@ enum hpsdr_answer {
     HPSDR_RANGE = 9
 };
 
-/* Which unassigned code or bit of a host frame is set where the answer is RESERVED. A frame carries one word, so two
- * can be set in word 0 only, and then it is the source. What each of them says stands in `hpsdr_cause_sentence`. */
+/* What is wrong in a frame where the answer is RESERVED. 1 to 4, of a host frame: which unassigned code or bit is set.
+ * A frame carries one word, so two can be set in word 0 only, and then it is the source. 5 to 10, of a radio frame:
+ * which level is above 4,095, so that the top four of its 16 bits are not all 0. Where both levels of a word are, it is
+ * the one in C1 and C2. What each cause says stands in `hpsdr_cause_sentence`. */
 enum hpsdr_cause {
     HPSDR_CAUSE_SOURCE10 = 1, /* word 0: C1 bits 3-2, the 10 MHz source, are 3 */
     HPSDR_CAUSE_RELAY = 2,    /* word 0: C4 bits 1-0, the transmit relay, are 3 */
     HPSDR_CAUSE_WORD9_C4_BIT7 = 3,
-    HPSDR_CAUSE_WORD10_C1_BIT7 = 4
+    HPSDR_CAUSE_WORD10_C1_BIT7 = 4,
+    HPSDR_CAUSE_AIN5 = 5,     /* the radio's word 1: C1 and C2 */
+    HPSDR_CAUSE_AIN1 = 6,     /* the radio's word 1: C3 and C4 */
+    HPSDR_CAUSE_AIN2 = 7,     /* the radio's word 2: C1 and C2 */
+    HPSDR_CAUSE_AIN3 = 8,     /* the radio's word 2: C3 and C4 */
+    HPSDR_CAUSE_AIN4 = 9,     /* the radio's word 3: C1 and C2 */
+    HPSDR_CAUSE_AIN6 = 10     /* the radio's word 3: C3 and C4 */
 };
 
 /* The three parts of what a call returns. A place means something beside NO_SYNC, PADDING and RESERVED only. */
@@ -84,7 +94,7 @@ static inline const char *hpsdr_answer_sentence(uint32_t answer) {
     case HPSDR_STREAM_FULL: return "more than 2^48 bytes would have been fed";
     case HPSDR_NO_SYNC: return "the frame's first three bytes are not 7F 7F 7F";
     case HPSDR_PADDING: return "a padding byte is not 0";
-    case HPSDR_RESERVED: return "an unassigned host code or bit is set";
+    case HPSDR_RESERVED: return "an unassigned host code or bit is set, or a level of a radio frame is above 4,095";
     case HPSDR_RANGE: return "a value to be written does not fit";
     default: return "this number is no answer";
     }
@@ -114,6 +124,12 @@ static inline const char *hpsdr_cause_sentence(uint32_t cause) {
     case HPSDR_CAUSE_RELAY: return "the transmit relay has the unassigned code 3";
     case HPSDR_CAUSE_WORD9_C4_BIT7: return "word 9's C4 bit 7 is set, which is unassigned";
     case HPSDR_CAUSE_WORD10_C1_BIT7: return "word 10's C1 bit 7 is set, which is unassigned";
+    case HPSDR_CAUSE_AIN5: return "level AIN5 is above 4,095";
+    case HPSDR_CAUSE_AIN1: return "level AIN1 is above 4,095";
+    case HPSDR_CAUSE_AIN2: return "level AIN2 is above 4,095";
+    case HPSDR_CAUSE_AIN3: return "level AIN3 is above 4,095";
+    case HPSDR_CAUSE_AIN4: return "level AIN4 is above 4,095";
+    case HPSDR_CAUSE_AIN6: return "level AIN6 is above 4,095";
     default: return "this number is no cause";
     }
 }
@@ -135,12 +151,20 @@ static inline const char *hpsdr_refusal_text(uint32_t got, char text[HPSDR_TEXT]
 }
 
 /* The same of what a transfer returned, with the refused frame's index, counted from 0: "sync byte 1 of frame 3 is not
- * 7F", "padding byte 509 of frame 3 is not zero". */
+ * 7F", "padding byte 509 of frame 3 is not zero", "level AIN5 of frame 3 is above 4,095". */
 static inline const char *hpsdr_transfer_text(uint32_t got, char text[HPSDR_TEXT]) {
     const unsigned place = (unsigned)hpsdr_place_in(got), frame = (unsigned)hpsdr_found_in(got);
+    const char *cause = hpsdr_cause_sentence(place);
+    const int name = sizeof "level AIN5" - 1; /* the length of it in the sentence of each level */
     switch (hpsdr_answer_of(got)) {
     case HPSDR_NO_SYNC: snprintf(text, HPSDR_TEXT, "sync byte %u of frame %u is not 7F", place, frame); break;
     case HPSDR_PADDING: snprintf(text, HPSDR_TEXT, "padding byte %u of frame %u is not zero", place, frame); break;
+    case HPSDR_RESERVED:
+        if (place < HPSDR_CAUSE_AIN5 || place > HPSDR_CAUSE_AIN6)
+            snprintf(text, HPSDR_TEXT, "%s", cause);
+        else
+            snprintf(text, HPSDR_TEXT, "%.*s of frame %u%s", name, cause, frame, cause + name);
+        break;
     default: hpsdr_refusal_text(got, text);
     }
     return text;
@@ -176,8 +200,13 @@ static inline uint32_t hpsdr_row_of(size_t receivers, struct hpsdr_row *row) {
 
 /* ---- frames from the radio ---- */
 
-/* What the radio's words have told so far. A flag is 1 or 0. BAD_STATE: a flag above 1, a serial number or version
- * above 255, a level above 65,535. RANGE on writing, and no refusal on reading: a version of 128 to 255. */
+/* What the radio's words have told so far. A flag is 1 or 0. In a frame that is accepted or written a level is 0 to
+ * 4,095, and a version 0 to 127. BAD_STATE: a flag above 1, a serial number or version above 255, a level above 65,535.
+ * RANGE on writing, and no refusal on reading: a version of 128 to 255, a level of 4,096 to 65,535.
+ *
+ * No level above 4,095 comes out of any sequence of reads, transfers included, accepted or refused, into a record that
+ * began fresh, or that had none above 4,095 when they began, if nothing else writes to it between them. A level above
+ * 4,095 that stood in the record before stays as it was until an accepted frame carries that level. */
 struct hpsdr_status {
     uint32_t dot, dash, ptt;                 /* flags: every accepted frame */
     uint32_t adc1, adc2, adc3, adc4;         /* flags, overflow: word 4, and adc1 by word 0 too */
@@ -216,13 +245,19 @@ static inline int32_t hpsdr_q(const struct hpsdr_samples *samples, size_t n, siz
 
 /* Reads a frame: I and Q to the start of `iq` and the microphone values to the start of `mic`, in the order above, and
  * its word into the record where it stands. Found: the word's address, 0 to 31, of which 0 to 4 are listed; another
- * one sets `dot`, `dash` and `ptt` only. Refusals: BAD_STATE, BAD_COUNT, LENGTH, SHORT_BUFFER, NO_SYNC, PADDING. Place:
- * for NO_SYNC the first of the bytes 0 to 2 that is not 7F, for PADDING the first padding byte that is not 0, both as
- * bytes of the frame, counted from 0: frame[place]. The padding of a row begins at byte 512 - padding.
+ * one sets `dot`, `dash` and `ptt` only. Refusals: BAD_STATE, BAD_COUNT, LENGTH, SHORT_BUFFER, NO_SYNC, PADDING, and
+ * RESERVED for a level above 4,095 in the frame's word, if this is 1, 2 or 3. Place: for NO_SYNC the first of the bytes
+ * 0 to 2 that is not 7F, for PADDING the first padding byte that is not 0, both as bytes of the frame, counted from 0:
+ * frame[place]; for RESERVED an `enum hpsdr_cause`, 5 to 10, which names the first such level in the order of C1 to C4.
+ * The padding of a row begins at byte 512 - padding.
+ *
+ * A frame that is refused for a level is refused whole, its samples and its DOT, DASH and PTT too: whoever wants the
+ * samples of such a frame does not get them. Words 0, 4 and unlisted ones carry no level: whatever their C1 to C4 are,
+ * no frame is refused for them.
  *
  * No frame carries the number of its receivers: the caller has to know it. A wrong number is not detected where the
- * frame has no padding for that number (1 and 2), or has zeros there. The frame is then accepted, and its samples are
- * cut at wrong places and given to wrong receivers. */
+ * frame has no padding for that number (1 and 2), or has zeros there. The frame is then accepted, if nothing else is
+ * wrong, and its samples are cut at wrong places and given to wrong receivers. */
 uint32_t hpsdr_radio_read(const uint8_t *frame, size_t frame_length, size_t receivers,
                           int32_t *iq, size_t iq_length, int16_t *mic, size_t mic_length,
                           struct hpsdr_status *status, size_t status_cells);
@@ -253,13 +288,14 @@ static inline int32_t hpsdr_transfer_q(const struct hpsdr_transfer *transfer, si
 /* Reads a transfer: 1 to 8 frames of one number of receivers, one after another, as a stream hands them out. Each is
  * read just as `hpsdr_radio_read` reads it, into the record that the frame before it left, and its values stand after
  * those of the frame before it. Refusals, before any frame is read: BAD_STATE, BAD_COUNT, LENGTH (not 1 to 8 times 512
- * bytes), SHORT_BUFFER (`iq` or `mic` shorter than the whole input needs). Then the first refused frame's own, NO_SYNC
- * or PADDING, and there the call stops.
+ * bytes), SHORT_BUFFER (`iq` or `mic` shorter than the whole input needs). Then the first refused frame's own, NO_SYNC,
+ * PADDING or RESERVED, and there the call stops.
  *
  * Found, accepted or refused: the number of frames read, 0 to 8; which words they carried is not told. The record is
  * the one after these frames, and past their values `iq` and `mic` are as before. Where a frame is refused, what is
- * found is its index, counted from 0, and the place is the one that `hpsdr_radio_read` gives for it: the byte is
- * input[HPSDR_FRAME * found + place], and the frame behind is at input + HPSDR_FRAME * (found + 1). */
+ * found is its index, counted from 0, and the place is the one that `hpsdr_radio_read` gives for it: for NO_SYNC and
+ * PADDING the byte is input[HPSDR_FRAME * found + place], for RESERVED the place is an `enum hpsdr_cause`. The frame
+ * behind is at input + HPSDR_FRAME * (found + 1). */
 uint32_t hpsdr_radio_read_transfer(const uint8_t *input, size_t input_length, size_t receivers,
                                    int32_t *iq, size_t iq_length, int16_t *mic, size_t mic_length,
                                    struct hpsdr_status *status, size_t status_cells);
@@ -272,7 +308,8 @@ static inline uint32_t hpsdr_read_transfer(const uint8_t *input, size_t length, 
 
 /* Writes the frame that carries a word of the record, 0 to 4: all 512 bytes of it, padding among them. Who reads it has
  * to know the number of receivers. Refusals: BAD_STATE, BAD_COUNT, LENGTH, SHORT_BUFFER, and RANGE for a word above
- * 4, a version above 127, whichever word is written, and an I or Q of this frame that is out of its range. */
+ * 4, a version above 127 or a level above 4,095 anywhere in the record, whichever word is written, and an I or Q of
+ * this frame that is out of its range. */
 uint32_t hpsdr_radio_write(const struct hpsdr_status *status, size_t status_cells, size_t word, size_t receivers,
                            const int32_t *iq, size_t iq_length, const int16_t *mic, size_t mic_length,
                            uint8_t *frame, size_t frame_length);
@@ -350,7 +387,7 @@ static inline void hpsdr_host_init(struct hpsdr_host *host) { hpsdr_host_fresh(h
 /* Reads a frame: its 252 numbers to the start of `audio`, and its word into the record where it stands. Found: the
  * word's address, 0 to 127, of which 0 to 10 are listed; another one sets `mox` only. Refusals: BAD_STATE, LENGTH,
  * SHORT_BUFFER, NO_SYNC, RESERVED. Place: for NO_SYNC the first of the frame's bytes 0 to 2 that is not 7F, for RESERVED
- * an `enum hpsdr_cause`. */
+ * an `enum hpsdr_cause`, 1 to 4. */
 uint32_t hpsdr_host_read(const uint8_t *frame, size_t frame_length, int16_t *audio, size_t audio_length,
                          struct hpsdr_host *host, size_t host_cells);
 

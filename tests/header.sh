@@ -30,7 +30,9 @@ static_assert(HPSDR_ACCEPTED == 0 && HPSDR_BAD_STATE == 1 && HPSDR_BAD_COUNT == 
               HPSDR_SHORT_BUFFER == 4 && HPSDR_STREAM_FULL == 5 && HPSDR_NO_SYNC == 6 && HPSDR_PADDING == 7 &&
               HPSDR_RESERVED == 8 && HPSDR_RANGE == 9, "answers");
 static_assert(HPSDR_CAUSE_SOURCE10 == 1 && HPSDR_CAUSE_RELAY == 2 && HPSDR_CAUSE_WORD9_C4_BIT7 == 3 &&
-              HPSDR_CAUSE_WORD10_C1_BIT7 == 4, "causes");
+              HPSDR_CAUSE_WORD10_C1_BIT7 == 4, "causes of a host frame");
+static_assert(HPSDR_CAUSE_AIN5 == 5 && HPSDR_CAUSE_AIN1 == 6 && HPSDR_CAUSE_AIN2 == 7 && HPSDR_CAUSE_AIN3 == 8 &&
+              HPSDR_CAUSE_AIN4 == 9 && HPSDR_CAUSE_AIN6 == 10, "causes of a radio frame");
 static_assert(HPSDR_TEXT == 128, "room for a text");
 static_assert(HPSDR_PTT_TO_RING == 0 && HPSDR_PTT_TO_TIP == 1, "codes of the jack");
 
