@@ -359,11 +359,11 @@ static void test_samples(size_t receivers, bool longer) {
 static const struct hpsdr_status full_status = {
     .dot = 1, .ptt = 1, .adc1 = 1, .adc3 = 1, .adc4 = 1, .io2 = 1, .io3 = 1, .pll = 1,
     .mercury = 0x12, .penelope = 0x34, .main = 0xFF, .ain5 = 0x0102, .ain1 = 0x0304, .ain2 = 0x0506, .ain3 = 0x0708,
-    .ain4 = 0x090A, .ain6 = 0xFFFE, .board1 = 127, .board2 = 1, .board3 = 2, .board4 = 64};
+    .ain4 = 0x090A, .ain6 = 0x0FFE, .board1 = 127, .board2 = 1, .board3 = 2, .board4 = 64};
 static const uint8_t full_status_words[LAST_WORD + 1][5] = {{0x05, 0x33, 0x12, 0x34, 0xFF},
                                                             {0x0D, 0x01, 0x02, 0x03, 0x04},
                                                             {0x15, 0x05, 0x06, 0x07, 0x08},
-                                                            {0x1D, 0x09, 0x0A, 0xFF, 0xFE},
+                                                            {0x1D, 0x09, 0x0A, 0x0F, 0xFE},
                                                             {0x25, 0xFF, 0x02, 0x05, 0x81}};
 
 /* The record after the words 0 to `word` of the full one, on a fresh one. */
@@ -445,9 +445,157 @@ static void test_unlisted_status_words(void) {
     }
 }
 
+/* ---- levels ---- */
+
+enum { LEVEL_MOST = 4095 };
+#define STATUS_CELL(member) (offsetof(struct hpsdr_status, member) / sizeof(uint32_t))
+
+/* The words that carry levels, by T-08: the one in C1 and C2, and the one in C3 and C4. */
+static const struct level_word {
+    uint8_t word;
+    size_t cells[2];
+    enum hpsdr_cause causes[2];
+} level_words[] = {{1, {STATUS_CELL(ain5), STATUS_CELL(ain1)}, {HPSDR_CAUSE_AIN5, HPSDR_CAUSE_AIN1}},
+                   {2, {STATUS_CELL(ain2), STATUS_CELL(ain3)}, {HPSDR_CAUSE_AIN2, HPSDR_CAUSE_AIN3}},
+                   {3, {STATUS_CELL(ain4), STATUS_CELL(ain6)}, {HPSDR_CAUSE_AIN4, HPSDR_CAUSE_AIN6}}};
+static const struct level_word *const level_words_end = level_words + sizeof level_words / sizeof *level_words;
+
+static uint32_t *status_cell(struct desk *desk, size_t cell) { return (uint32_t *)&desk->status[1] + cell; }
+
+static void put_levels(uint8_t *frame, uint8_t c0, uint32_t first, uint32_t second) {
+    frame[3] = c0;
+    put_number(put_number(frame + 4, first, 2), second, 2);
+}
+
+/* Two levels that a frame can have, read over a fresh record with all keys, and written again. */
+static void test_levels_taken(const struct level_word *of, uint32_t first, uint32_t second) {
+    set_out();
+    put_levels(lent.frame[1], (uint8_t)(of->word << 3 | 7), first, second);
+    expect_unchanged();
+    expect_zero_samples();
+    expected.status[1].dot = expected.status[1].dash = expected.status[1].ptt = 1;
+    *status_cell(&expected, of->cells[0]) = first;
+    *status_cell(&expected, of->cells[1]) = second;
+    run("radio read of levels", radio_read, HPSDR_ACCEPTED, of->word);
+    pass.word = of->word;
+    memset(lent.frame[1], 0xEE, HPSDR_FRAME);
+    run("radio write of levels", radio_write, HPSDR_ACCEPTED, 0);
+}
+
+/* The first level above 4,095 is named, and nothing is taken of the frame: its keys are set and the record's are not,
+ * its samples are 0, and its other level may be good. */
+static void test_levels(const struct level_word *of, uint32_t first, uint32_t second) {
+    if (first <= LEVEL_MOST && second <= LEVEL_MOST) {
+        test_levels_taken(of, first, second);
+        return;
+    }
+    set_out();
+    put_levels(lent.frame[1], (uint8_t)(of->word << 3 | 7), first, second);
+    refuse_at("radio read of a level above 4,095", radio_read, HPSDR_RESERVED, of->causes[first <= LEVEL_MOST]);
+}
+
+/* Every high byte, with the least and the greatest low byte, and every bit alone: in either level, beside a good one,
+ * and in both. */
+static void test_all_levels(const struct level_word *of) {
+    for (uint32_t high = 0; high <= BYTE; high++) {
+        const uint32_t least = high << 8, most = high << 8 | 0xFF;
+        test_levels(of, least, LEVEL_MOST);
+        test_levels(of, LEVEL_MOST, most);
+        test_levels(of, most, least);
+    }
+    for (unsigned bit = 0; bit < 16; bit++) {
+        test_levels(of, UINT32_C(1) << bit, 0);
+        test_levels(of, 0, UINT32_C(1) << bit);
+        test_levels(of, UINT32_C(1) << bit, UINT32_C(1) << bit);
+    }
+}
+
+/* The number of the request that asked for this, and others, with their causes by number. */
+static void test_levels_by_hand(void) {
+    static const struct {
+        const char *what;
+        uint8_t control[5];
+        size_t cause;
+    } cases[] = {{"radio read of AIN5 at 40,000", {0x08, 0x9C, 0x40, 0, 0}, 5},
+                 {"radio read of AIN1 at 40,000", {0x08, 0, 0, 0x9C, 0x40}, 6},
+                 {"radio read of AIN5 and AIN1 at 40,000", {0x0F, 0x9C, 0x40, 0x9C, 0x40}, 5},
+                 {"radio read of AIN2 at 4,096", {0x10, 0x10, 0x00, 0, 0}, 7},
+                 {"radio read of AIN3 at 4,096", {0x10, 0x0F, 0xFF, 0x10, 0x00}, 8},
+                 {"radio read of AIN4 at 8,191", {0x18, 0x1F, 0xFF, 0x0F, 0xFF}, 9},
+                 {"radio read of AIN6 at 65,535", {0x18, 0x0F, 0xFF, 0xFF, 0xFF}, 10}};
+    for (size_t at = 0; at < sizeof cases / sizeof *cases; at++) {
+        set_out();
+        set_control(lent.frame[1], cases[at].control);
+        refuse_at(cases[at].what, radio_read, HPSDR_RESERVED, cases[at].cause);
+    }
+}
+
+/* Words 0 and 4 with every bit; test_unlisted_status_words has the unlisted ones. */
+static void test_words_without_levels(void) {
+    set_out();
+    set_control(lent.frame[1], (const uint8_t[]){0x07, 0xFF, 0xFF, 0xFF, 0xFF});
+    expect_unchanged();
+    expect_zero_samples();
+    expected.status[1] = (struct hpsdr_status){.dot = 1, .dash = 1, .ptt = 1, .adc1 = 1, .pll = 1, .toggle = 1,
+                                               .mercury = 255, .penelope = 255, .main = 255};
+    run("radio read of all bits in word 0", radio_read, HPSDR_ACCEPTED, 0);
+    set_out();
+    set_control(lent.frame[1], (const uint8_t[]){0x27, 0xFF, 0xFF, 0xFF, 0xFF});
+    expect_unchanged();
+    expect_zero_samples();
+    expected.status[1] = (struct hpsdr_status){.dot = 1, .dash = 1, .ptt = 1, .adc1 = 1, .adc2 = 1, .adc3 = 1,
+                                               .adc4 = 1, .io1 = 1, .io2 = 1, .io3 = 1, .io4 = 1, .board1 = 127,
+                                               .board2 = 127, .board3 = 127, .board4 = 127};
+    run("radio read of all bits in word 4", radio_read, HPSDR_ACCEPTED, 4);
+}
+
+static void raise_levels(struct desk *desk, uint32_t level) {
+    for (const struct level_word *of = level_words; of < level_words_end; of++)
+        *status_cell(desk, of->cells[0]) = *status_cell(desk, of->cells[1]) = level;
+}
+
+/* A record whose levels no frame has: no read refuses it for them. Each level stays, but for those of the word that is
+ * read, which here are 0; and a refused frame leaves all of them. */
+static void test_record_of_high_levels(uint32_t level) {
+    for (uint8_t address = 0; address < 32; address++) {
+        set_out();
+        raise_levels(&lent, level);
+        set_control(lent.frame[1], (const uint8_t[]){(uint8_t)(address << 3), 0, 0, 0, 0});
+        expect_unchanged();
+        expect_zero_samples();
+        for (const struct level_word *of = level_words; of < level_words_end; of++)
+            if (of->word == address)
+                *status_cell(&expected, of->cells[0]) = *status_cell(&expected, of->cells[1]) = 0;
+        run("radio read into a record of high levels", radio_read, HPSDR_ACCEPTED, address);
+    }
+    for (const struct level_word *of = level_words; of < level_words_end; of++) {
+        set_out();
+        raise_levels(&lent, level);
+        put_levels(lent.frame[1], (uint8_t)(of->word << 3 | 7), 1, 0x1001);
+        refuse_at("radio read of a high level into a record of such", radio_read, HPSDR_RESERVED, of->causes[1]);
+    }
+}
+
+/* One level of the record is above 4,095, and each of the words 0 to 4 is due. */
+static void test_high_level_written(size_t cell) {
+    static const uint32_t high[] = {4096, 8191, 8192, 40000, 65535};
+    set_out();
+    put_samples(&lent, 1, 1);
+    for (pass.word = 0; pass.word <= LAST_WORD; pass.word++) {
+        for (size_t at = 0; at < sizeof high / sizeof *high; at++) {
+            *status_cell(&lent, cell) = high[at];
+            refuse("radio write of a level above 4,095", radio_write, HPSDR_RANGE);
+        }
+        *status_cell(&lent, cell) = 0;
+    }
+}
+
+/* ---- what a radio read and a radio write refuse ---- */
+
 /* Each refusal, mending what gave the one before. */
 static void test_radio_read_refusals(void) {
     set_out();
+    put_levels(lent.frame[1], 2 << 3 | 7, 0x1000, 0xF000);
     lent.frame[1][2] = 0x7E;
     lent.frame[1][511] = 1;
     lent.status[1].pll = 2;
@@ -472,13 +620,19 @@ static void test_radio_read_refusals(void) {
     refuse_at("radio read without sync", radio_read, HPSDR_NO_SYNC, 2);
     lent.frame[1][2] = 0x7F;
     refuse_at("radio read with padding", radio_read, HPSDR_PADDING, 511);
+    lent.frame[1][511] = 0;
+    refuse_at("radio read of two levels above 4,095", radio_read, HPSDR_RESERVED, HPSDR_CAUSE_AIN2);
+    lent.frame[1][4] = 0x0F;
+    refuse_at("radio read of the second level above 4,095", radio_read, HPSDR_RESERVED, HPSDR_CAUSE_AIN3);
 }
 
-/* Each byte of padding alone, and with each of those behind it: the first is named. The byte before them is not 0. */
+/* Each byte of padding alone, and with each of those behind it: the first is named. The byte before them is not 0. The
+ * frame's levels are above 4,095, which is told where all the padding is 0. */
 static void test_padding(size_t receivers) {
     const size_t padding = HPSDR_FRAME - rows[receivers - 1].padding;
     set_out();
     pass.receivers = receivers;
+    put_levels(lent.frame[1], 3 << 3 | 7, 0xFFFF, 0xFFFF);
     lent.frame[1][padding - 1] = 1;
     for (size_t place = padding; place < HPSDR_FRAME; place++) {
         lent.frame[1][place] = 0x80;
@@ -490,13 +644,16 @@ static void test_padding(size_t receivers) {
         }
         lent.frame[1][place] = 0;
     }
+    refuse_at("radio read of a level above 4,095 before padding of 0", radio_read, HPSDR_RESERVED, HPSDR_CAUSE_AIN4);
 }
 
-/* Every choice of bytes that are not sync, of which bit k of `wrong` is byte k, with padding that is not 0. */
+/* Every choice of bytes that are not sync, of which bit k of `wrong` is byte k, with padding that is not 0 and levels
+ * above 4,095. */
 static void test_sync(size_t receivers) {
     static const size_t first_wrong[8] = {3, 0, 1, 0, 2, 0, 1, 0};
     set_out();
     pass.receivers = receivers;
+    put_levels(lent.frame[1], 1 << 3 | 7, 0x9C40, 0x9C40);
     memset(lent.frame[1] + HPSDR_FRAME - rows[receivers - 1].padding, 0xFF, rows[receivers - 1].padding);
     for (unsigned wrong = 1; wrong < 8; wrong++) {
         for (size_t place = 0; place < 3; place++)
@@ -603,6 +760,54 @@ static void test_all_stops(void) {
     }
 }
 
+/* Each of eight frames has a level above 4,095 in turn, with all keys: alone, then with the other level too, and with
+ * the whole frame behind damaged. */
+static void test_level_stops(size_t receivers, const struct level_word *of, size_t which) {
+    for (size_t frames = 0; frames < HPSDR_MOST_FRAMES; frames++) {
+        set_out_transfer(receivers, HPSDR_MOST_FRAMES);
+        uint8_t *frame = lent.input[1] + HPSDR_FRAME * frames;
+        put_levels(frame, (uint8_t)(of->word << 3 | 7), which == 0 ? 0x1001 : 1, which == 0 ? 1 : 0x1001);
+        expect_frames(frames);
+        run_at("transfer with a level above 4,095", radio_read_transfer, HPSDR_RESERVED, (uint32_t)frames,
+               of->causes[which]);
+        put_levels(frame, (uint8_t)(of->word << 3 | 7), 0x1001, 0x1001);
+        memset(frame + HPSDR_FRAME, 0xFF, HPSDR_FRAME);
+        expect_frames(frames);
+        run_at("transfer with two levels above 4,095", radio_read_transfer, HPSDR_RESERVED, (uint32_t)frames,
+               of->causes[0]);
+    }
+}
+
+/* C0 to C4 of one of the words 0 to 7, and of the high bytes of levels seven in eight good, so that frames of both
+ * kinds come. */
+static void put_noise(uint8_t *frame) {
+    static uint32_t state = 1;
+    for (size_t place = 3; place < FIRST_PAYLOAD; place++) {
+        state = state * 1664525 + 1013904223;
+        const bool good = place % 2 == 0 && (state >> 8 & 7) != 0;
+        frame[place] = (uint8_t)(state >> 24 & (place == 3 ? 0x3F : good ? 0x0F : 0xFF));
+    }
+}
+
+/* Single reads and transfers of such frames, all into one record that began fresh: whatever a call answers, no level is
+ * above 4,095 after it. */
+static void test_no_level_above(void) {
+    size_t taken = 0, refused = 0;
+    set_out_transfer(1, HPSDR_MOST_FRAMES);
+    for (unsigned call = 0; call < 4000; call++) {
+        put_noise(lent.frame[1]);
+        for (size_t number = 0; number < HPSDR_MOST_FRAMES; number++)
+            put_noise(lent.input[1] + HPSDR_FRAME * number);
+        const uint32_t got = call % 2 ? radio_read() : radio_read_transfer();
+        *(hpsdr_answer_of(got) == HPSDR_ACCEPTED ? &taken : &refused) += 1;
+        for (const struct level_word *of = level_words; of < level_words_end; of++)
+            if (*status_cell(&lent, of->cells[0]) > LEVEL_MOST || *status_cell(&lent, of->cells[1]) > LEVEL_MOST)
+                report("call %u: a level of word %u is above 4,095", call, (unsigned)of->word);
+    }
+    if (taken < 100 || refused < 100)
+        report("of calls with noise %zu were accepted and %zu refused, expected many of both", taken, refused);
+}
+
 static void test_transfer_lengths(void) {
     static const size_t wrong[] = {0, 1, 511, 513, 1023, 1025, 4095, 4097, 4607, NINE_FRAMES};
     for (size_t at = 0; at < sizeof wrong / sizeof *wrong; at++) {
@@ -614,11 +819,14 @@ static void test_transfer_lengths(void) {
     }
 }
 
-/* Each refusal, mending what gave the one before. The third frame's would come first by its number. */
+/* Each refusal, mending what gave the one before. The third frame's would come first by its number. The second carries
+ * word 1 and the third word 2, both with a level above 4,095. */
 static void test_transfer_refusals(void) {
     set_out_transfer(3, 3);
     lent.input[1][HPSDR_FRAME + 511] = 1;
+    lent.input[1][HPSDR_FRAME + 4] |= 0x90;
     lent.input[1][2 * HPSDR_FRAME + 1] = 0x7E;
+    lent.input[1][2 * HPSDR_FRAME + 6] |= 0x10;
     lent.status[1].pll = 2;
     pass.receivers = 9;
     pass.input--;
@@ -643,8 +851,17 @@ static void test_transfer_refusals(void) {
     expect_frames(1);
     run_at("transfer with padding, then without sync", radio_read_transfer, HPSDR_PADDING, 1, 511);
     lent.input[1][HPSDR_FRAME + 511] = 0;
+    expect_frames(1);
+    run_at("transfer with a level, then without sync", radio_read_transfer, HPSDR_RESERVED, 1, HPSDR_CAUSE_AIN5);
+    lent.input[1][HPSDR_FRAME + 4] &= 0x0F;
     expect_frames(2);
     run_at("transfer without sync", radio_read_transfer, HPSDR_NO_SYNC, 2, 1);
+    lent.input[1][2 * HPSDR_FRAME + 1] = 0x7F;
+    expect_frames(2);
+    run_at("transfer with a level in its last frame", radio_read_transfer, HPSDR_RESERVED, 2, HPSDR_CAUSE_AIN3);
+    lent.input[1][2 * HPSDR_FRAME + 6] &= 0x0F;
+    expect_frames(3);
+    run("transfer with nothing wrong", radio_read_transfer, HPSDR_ACCEPTED, 3);
 }
 
 /* ---- host frames ---- */
@@ -1070,6 +1287,16 @@ int main(void) {
     test_status_words(3);
     test_status_bits();
     test_unlisted_status_words();
+    for (const struct level_word *of = level_words; of < level_words_end; of++) {
+        test_all_levels(of);
+        test_high_level_written(of->cells[0]);
+        test_high_level_written(of->cells[1]);
+    }
+    test_levels_by_hand();
+    test_words_without_levels();
+    test_record_of_high_levels(4096);
+    test_record_of_high_levels(40000);
+    test_record_of_high_levels(65535);
     test_radio_read_refusals();
     test_radio_write_refusals();
     for (size_t receivers = 1; receivers <= HPSDR_MOST_RECEIVERS; receivers++) {
@@ -1077,8 +1304,13 @@ int main(void) {
         test_sync(receivers);
         test_transfers(receivers, 0);
         test_transfers(receivers, 3);
+        for (const struct level_word *of = level_words; of < level_words_end; of++) {
+            test_level_stops(receivers, of, 0);
+            test_level_stops(receivers, of, 1);
+        }
     }
     test_all_stops();
+    test_no_level_above();
     test_transfer_lengths();
     test_transfer_refusals();
     test_host_words(0);
