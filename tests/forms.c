@@ -187,7 +187,7 @@ static void test_read(void) {
         given.receivers = n;
         for (uint32_t address = 0; address < 32; address++) {
             given.frame[3] = (uint8_t)(address << 3 | 5);
-            given.frame[4] = 0xFF;
+            given.frame[4] = address < 1 || address > 3 ? 0xFF : 0x0F;
             both(&radio_read, HPSDR_ACCEPTED, address, n);
             check(by_short.status.dot == 1 && by_short.status.dash == 0 && by_short.status.ptt == 1, "read",
                   "the keys are others", n);
@@ -201,7 +201,26 @@ static void test_read(void) {
     }
 }
 
-/* Eight frames, each with word 1 and an AIN5 of its own; then one of them without a byte of sync. */
+/* Words 1 to 3 with a level above 4,095 in C1 and C2, with one in C3 and C4, and with both. */
+static void test_read_levels(void) {
+    static const uint32_t causes[3][2] = {{HPSDR_CAUSE_AIN5, HPSDR_CAUSE_AIN1},
+                                          {HPSDR_CAUSE_AIN2, HPSDR_CAUSE_AIN3},
+                                          {HPSDR_CAUSE_AIN4, HPSDR_CAUSE_AIN6}};
+    set_out();
+    for (size_t word = 1; word <= 3; word++) {
+        given.frame[3] = (uint8_t)(word << 3 | 7);
+        given.frame[4] = 0x10;
+        given.frame[6] = 0x0F;
+        refuse_at(&radio_read, HPSDR_RESERVED, causes[word - 1][0], word);
+        given.frame[6] = 0x9C;
+        refuse_at(&radio_read, HPSDR_RESERVED, causes[word - 1][0], word);
+        given.frame[4] = 0x0F;
+        refuse_at(&radio_read, HPSDR_RESERVED, causes[word - 1][1], word);
+    }
+}
+
+/* Eight frames, each with word 1 and an AIN5 of its own; then one of them without a byte of sync, or with one of its
+ * levels above 4,095. */
 static void test_transfer(void) {
     set_out();
     for (size_t k = 0; k < 8; k++) {
@@ -220,6 +239,10 @@ static void test_transfer(void) {
         both_at(&read_transfer, HPSDR_NO_SYNC, frames, place, frames);
         check(by_short.status.ain5 == frames, "read_transfer", "the record is not that of the frames before", frames);
         given.input[512 * frames + place] = 0x7F;
+        given.input[512 * frames + 6] = 0x10;
+        both_at(&read_transfer, HPSDR_RESERVED, frames, HPSDR_CAUSE_AIN1, frames);
+        check(by_short.status.ain5 == frames, "read_transfer", "the record is not that of the frames before", frames);
+        given.input[512 * frames + 6] = 0;
     }
     static const size_t wrong[] = {0, 511, 513, 4095, 4097, 4608};
     for (size_t at = 0; at < sizeof wrong / sizeof *wrong; at++) {
@@ -434,8 +457,8 @@ struct field {
 static const struct field status_fields[] = {
     FLAG(dot), FLAG(dash), FLAG(ptt), FLAG(adc1), FLAG(adc2), FLAG(adc3), FLAG(adc4), FLAG(io1), FLAG(io2), FLAG(io3),
     FLAG(io4), FLAG(pll), FLAG(toggle), FIELD(mercury, 255, 255), FIELD(penelope, 255, 255), FIELD(main, 255, 255),
-    FIELD(ain5, 65535, 65535), FIELD(ain1, 65535, 65535), FIELD(ain2, 65535, 65535), FIELD(ain3, 65535, 65535),
-    FIELD(ain4, 65535, 65535), FIELD(ain6, 65535, 65535), FIELD(board1, 255, 127), FIELD(board2, 255, 127),
+    FIELD(ain5, 65535, 4095), FIELD(ain1, 65535, 4095), FIELD(ain2, 65535, 4095), FIELD(ain3, 65535, 4095),
+    FIELD(ain4, 65535, 4095), FIELD(ain6, 65535, 4095), FIELD(board1, 255, 127), FIELD(board2, 255, 127),
     FIELD(board3, 255, 127), FIELD(board4, 255, 127)};
 #undef FIELD
 #define FIELD(member, cell, frame) {#member, offsetof(struct hpsdr_host, member), cell, frame}
@@ -561,7 +584,8 @@ static void test_parts(void) {
                  {0x0000FF00, HPSDR_ACCEPTED, 255, 0}, {0x00000009, HPSDR_RANGE, 0, 0},
                  {0x00000006, HPSDR_NO_SYNC, 0, 0},    {0x00020706, HPSDR_NO_SYNC, 7, 2},
                  {0x01E80007, HPSDR_PADDING, 0, 488},  {0x01FD0307, HPSDR_PADDING, 3, 509},
-                 {0x00040008, HPSDR_RESERVED, 0, 4},   {0xFFFF0008, HPSDR_RESERVED, 0, 65535}};
+                 {0x00040008, HPSDR_RESERVED, 0, 4},   {0x000A0708, HPSDR_RESERVED, 7, 10},
+                 {0xFFFF0008, HPSDR_RESERVED, 0, 65535}};
     for (size_t at = 0; at < sizeof parts / sizeof *parts; at++) {
         check(hpsdr_answer_of(parts[at].got) == parts[at].answer, "answer_of", "another answer", at);
         check(hpsdr_found_in(parts[at].got) == parts[at].found, "found_in", "another number", at);
@@ -582,7 +606,8 @@ static void test_words(void) {
                  {5, "STREAM_FULL", "more than 2^48 bytes would have been fed"},
                  {6, "NO_SYNC", "the frame's first three bytes are not 7F 7F 7F"},
                  {7, "PADDING", "a padding byte is not 0"},
-                 {8, "RESERVED", "an unassigned host code or bit is set"},
+                 {8, "RESERVED",
+                  "an unassigned host code or bit is set, or a level of a radio frame is above 4,095"},
                  {9, "RANGE", "a value to be written does not fit"},
                  {10, "?", "this number is no answer"},
                  {255, "?", "this number is no answer"},
@@ -603,8 +628,14 @@ static void test_causes(void) {
                   {HPSDR_CAUSE_RELAY, "the transmit relay has the unassigned code 3"},
                   {HPSDR_CAUSE_WORD9_C4_BIT7, "word 9's C4 bit 7 is set, which is unassigned"},
                   {HPSDR_CAUSE_WORD10_C1_BIT7, "word 10's C1 bit 7 is set, which is unassigned"},
+                  {HPSDR_CAUSE_AIN5, "level AIN5 is above 4,095"},
+                  {HPSDR_CAUSE_AIN1, "level AIN1 is above 4,095"},
+                  {HPSDR_CAUSE_AIN2, "level AIN2 is above 4,095"},
+                  {HPSDR_CAUSE_AIN3, "level AIN3 is above 4,095"},
+                  {HPSDR_CAUSE_AIN4, "level AIN4 is above 4,095"},
+                  {HPSDR_CAUSE_AIN6, "level AIN6 is above 4,095"},
                   {0, "this number is no cause"},
-                  {5, "this number is no cause"},
+                  {11, "this number is no cause"},
                   {UINT32_MAX, "this number is no cause"}};
     for (size_t at = 0; at < sizeof causes / sizeof *causes; at++)
         check(strcmp(hpsdr_cause_sentence(causes[at].cause), causes[at].sentence) == 0, "cause_sentence",
@@ -634,6 +665,14 @@ static void test_texts_with_a_place(void) {
         {0x00030008, "word 9's C4 bit 7 is set, which is unassigned", "word 9's C4 bit 7 is set, which is unassigned"},
         {0x00040008, "word 10's C1 bit 7 is set, which is unassigned",
          "word 10's C1 bit 7 is set, which is unassigned"},
+        {0x00050308, "level AIN5 is above 4,095", "level AIN5 of frame 3 is above 4,095"},
+        {0x00060008, "level AIN1 is above 4,095", "level AIN1 of frame 0 is above 4,095"},
+        {0x00070108, "level AIN2 is above 4,095", "level AIN2 of frame 1 is above 4,095"},
+        {0x00080208, "level AIN3 is above 4,095", "level AIN3 of frame 2 is above 4,095"},
+        {0x00090408, "level AIN4 is above 4,095", "level AIN4 of frame 4 is above 4,095"},
+        {0x000A0708, "level AIN6 is above 4,095", "level AIN6 of frame 7 is above 4,095"},
+        {0x000AFF08, "level AIN6 is above 4,095", "level AIN6 of frame 255 is above 4,095"},
+        {0x000B0008, "this number is no cause", "this number is no cause"},
         {0x00000008, "this number is no cause", "this number is no cause"}};
     char text[HPSDR_TEXT];
     for (size_t at = 0; at < sizeof texts / sizeof *texts; at++) {
@@ -670,6 +709,14 @@ static void test_read_and_told(void) {
         given.input[512 * k + 509] = 0;
     hpsdr_transfer_text(short_transfer(&given), text);
     check(strcmp(text, "padding byte 509 of frame 3 is not zero") == 0, "read_transfer", text, 509);
+    memcpy(given.input + 512 * 3, "\x7F\x7F\x7F\x08\x9C\x40", 6);
+    given.input[512 * 3 + 509] = 0;
+    hpsdr_transfer_text(short_transfer(&given), text);
+    check(strcmp(text, "level AIN5 of frame 3 is above 4,095") == 0, "read_transfer", text, 40000);
+    memcpy(given.frame, given.input + 512 * 3, 512);
+    hpsdr_refusal_text(short_read(&given), text);
+    check(strcmp(text, "level AIN5 is above 4,095") == 0, "read", text, 40000);
+    memset(given.frame + 3, 0, 4);
     given.frame[7] = 0x17;
     hpsdr_refusal_text(short_hear(&given), text);
     check(strcmp(text, "the transmit relay has the unassigned code 3") == 0, "hear", text, 2);
@@ -679,6 +726,7 @@ int main(void) {
     test_row();
     test_inits();
     test_read();
+    test_read_levels();
     test_transfer();
     test_write();
     test_hear_and_build();
