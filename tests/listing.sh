@@ -19,6 +19,9 @@ lists() { # WHAT
 
 rows() { printf '%s\n' "$@" >"$room/rows"; }
 
+# The line of a frame of zeros but for sync and C0 to C4.
+frame() { printf '7f7f7f%s%s\n' "$1" "$(digits 1008 0)"; } # CONTROL
+
 # Document 01's line 1: word 1, DOT on. `good` is the frame, without the end of its line.
 good=7f7f7f0c01f40000$(digits 1008 0)
 zeros=$(digits 1023 0)
@@ -60,6 +63,25 @@ printf '%s\n' "7e7f7f${good#7f7f7f}" "7f7e7f${good#7f7f7f}" "7f7f7e${good#7f7f7f
 rows '1 6 - - - -' '2 6 - - - -' '3 6 - - - -' '4 6 - - - -'
 lists 'no sync'
 
+# A level is twelve bits, in C1 and C2 and in C3 and C4 of words 1 to 3: 9c40 is 40,000, 0fff is 4,095.
+for control in 089c400000 0800009c40 0f9c409c40 1710000000 170fff1000 1f1fff0fff 1f0fffffff; do
+    frame "$control"
+done >"$room/in"
+rows '1 8 - - - -' '2 8 - - - -' '3 8 - - - -' '4 8 - - - -' '5 8 - - - -' '6 8 - - - -' '7 8 - - - -'
+lists 'a level above 4,095'
+
+for control in 080fff0000 0f0fff0fff 170fff0fff 1f0fff0fff 07ffffffff 20ffffffff 279c409c40 2fffffffff f89c409c40; do
+    frame "$control"
+done >"$room/in"
+rows '1 0 1 0 0 0' '2 0 1 1 1 1' '3 0 2 1 1 1' '4 0 3 1 1 1' '5 0 0 1 1 1' '6 0 4 0 0 0' '7 0 4 1 1 1' '8 0 5 1 1 1' \
+    '9 0 31 0 0 0'
+lists 'levels of 4,095, and words that carry none'
+
+# Sync is tested before a level.
+printf '%s\n' "7e7f7f089c400000$(digits 1008 0)" >"$room/in"
+rows '1 6 - - - -'
+lists 'a level above 4,095 without sync'
+
 {
     printf '%s\n' "$good"
     digits 1048576 0
@@ -70,7 +92,8 @@ rows '1 0 1 1 0 0' '2 3 - - - -' '3 0 1 1 0 0' '4 3 - - - -'
 lists 'lines of a megabyte'
 
 # Every address with DOT, DASH and PTT in every combination, in C0 bits 7-3, 2, 1 and 0; the other
-# bytes are zeros, and then all ones. 524,800 bytes: several chunks, whose ends cut lines.
+# bytes are zeros, and then all ones, which in words 1 to 3 are levels above 4,095. 524,800 bytes: several
+# chunks, whose ends cut lines.
 awk -v in_file="$room/in" -v rows_file="$room/rows" '
     function hex(n) { return substr("0123456789abcdef", int(n / 16) + 1, 1) substr("0123456789abcdef", n % 16 + 1, 1) }
     function list(fill,    address, dot, dash, ptt, rest) {
@@ -82,7 +105,10 @@ awk -v in_file="$room/in" -v rows_file="$room/rows" '
                 for (dash = 0; dash < 2; dash++)
                     for (ptt = 0; ptt < 2; ptt++) {
                         print "7f7f7f" hex(8 * address + 4 * dot + 2 * dash + ptt) rest >in_file
-                        print ++line, 0, address, dot, dash, ptt >rows_file
+                        if (fill == "f" && address >= 1 && address <= 3)
+                            print ++line, "8 - - - -" >rows_file
+                        else
+                            print ++line, 0, address, dot, dash, ptt >rows_file
                     }
     }
     BEGIN { list("0"); list("f") }'

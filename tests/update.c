@@ -111,6 +111,64 @@ static void refused(const char *what, uint32_t number, size_t frame_len, size_t 
 static const size_t slots[9] = { 0, 63, 36, 25, 19, 15, 13, 11, 10 };
 static const size_t padding[9] = { 0, 0, 0, 4, 10, 24, 10, 20, 4 };
 
+// The words that carry levels: where the level in C1 and C2 stands in the record and the number of its cause, and those
+// of the level in C3 and C4.
+static const struct level_word {
+    size_t first, second;
+    size_t first_cause, second_cause;
+} level_words[4] = {
+    { 0, 0, 0, 0 },
+    { offsetof(struct status, forward.ain5), offsetof(struct status, forward.ain1), 5, 6 },
+    { offsetof(struct status, reverse.ain2), offsetof(struct status, reverse.ain3), 7, 8 },
+    { offsetof(struct status, supply.ain4), offsetof(struct status, supply.ain6), 9, 10 },
+};
+
+static void put_level(struct status *record, size_t at, uint16_t level)
+{
+    memcpy((uint8_t *)record + at, &level, sizeof level);
+}
+
+// A word with two levels, all keys on, into a record of which no key is: both are kept, or the first above 4,095 is
+// named.
+static void levels(size_t word, uint32_t first, uint32_t second)
+{
+    const struct level_word *of = &level_words[word];
+    fresh((uint8_t)(word << 3 | 7), (uint8_t)(first >> 8), (uint8_t)first, (uint8_t)(second >> 8), (uint8_t)second);
+    status.ptt = before.ptt = false;
+    if (first > 4095) {
+        refused_at("a level above 4,095 in C1 and C2 is RESERVED", 8, of->first_cause, 512, 1, ROOM, ROOM);
+    } else if (second > 4095) {
+        refused_at("a level above 4,095 in C3 and C4 is RESERVED", 8, of->second_cause, 512, 1, ROOM, ROOM);
+    } else {
+        before.dot = before.dash = before.ptt = true;
+        put_level(&before, of->first, (uint16_t)first);
+        put_level(&before, of->second, (uint16_t)second);
+        check("levels are accepted", radio_update(frame, 512, 1, iq, ROOM, mic, ROOM, &status) == 0);
+        check("levels are kept, and no other field is changed", same_record());
+    }
+}
+
+// A record with every level at 65,535: a word without levels leaves them, one with levels replaces its own, and no word
+// is refused for what the record has.
+static void high_record(size_t word)
+{
+    fresh((uint8_t)(word << 3), 0, 0, 0, 0);
+    memset(&status, 0, sizeof status);
+    for (size_t of = 1; of <= 3; of++) {
+        put_level(&status, level_words[of].first, 65535);
+        put_level(&status, level_words[of].second, 65535);
+    }
+    before = status;
+    if (word == 0)
+        before.inputs.io1 = before.inputs.io2 = before.inputs.io3 = before.inputs.io4 = true;
+    if (1 <= word && word <= 3) {
+        put_level(&before, level_words[word].first, 0);
+        put_level(&before, level_words[word].second, 0);
+    }
+    check("a record with high levels is accepted", radio_update(frame, 512, 1, iq, ROOM, mic, ROOM, &status) == 0);
+    check("a record with high levels keeps those that the word does not carry", same_record());
+}
+
 int main(void)
 {
     check("the record takes 32 bytes", sizeof(struct status) == 32 && offsetof(struct status, versions) == 28);
@@ -139,6 +197,31 @@ int main(void)
     before.ptt = false;
     check("an unlisted word is accepted", radio_update(frame, 512, 1, iq, ROOM, mic, ROOM, &status) == 0);
     check("an unlisted word sets three flags and no other field", same_record());
+
+    // a level is twelve bits: every high byte of each level, beside a good one and with the other, and every bit alone
+    for (size_t word = 1; word <= 3; word++) {
+        for (uint32_t high = 0; high < 256; high++) {
+            levels(word, high << 8, 4095);
+            levels(word, 4095, high << 8 | 255);
+            levels(word, high << 8, high << 8);
+        }
+        for (uint32_t bit = 1; bit < 65536; bit *= 2) {
+            levels(word, bit, 0);
+            levels(word, 0, bit);
+        }
+    }
+    for (size_t word = 0; word < 32; word++)
+        high_record(word);
+
+    // 9C 40 is 40,000; in word 1 it is AIN5, whose cause is 5, and in word 4 it is no level
+    fresh(0x0c, 0x9c, 0x40, 0x00, 0x07);
+    refused_at("AIN5 at 40,000 is RESERVED", 8, 5, 512, 1, ROOM, ROOM);
+    fresh(0x20, 0x9c, 0x40, 0x9c, 0x40);
+    before.ptt = false;
+    before.overflow = (struct overflow){ false, false, false, false };
+    before.versions = (struct versions){ 78, 32, 78, 32 };
+    check("word 4 has no level to refuse", radio_update(frame, 512, 1, iq, ROOM, mic, ROOM, &status) == 0);
+    check("word 4 sets its fields and no others", same_record());
 
     // the last slot of each layout: its last receiver's I and Q, and its microphone value
     for (size_t n = 1; n <= 8; n++) {
@@ -182,7 +265,12 @@ int main(void)
     frame[0] = 0x7f;
     frame[1] = 0;
     frame[511] = 1;
+    frame[4] = 0x10;
     refused_at("NO_SYNC comes before PADDING", 6, 1, 512, 3, ROOM, ROOM);
+    frame[1] = 0x7f;
+    refused_at("PADDING comes before RESERVED", 7, 511, 512, 3, ROOM, ROOM);
+    frame[511] = 0;
+    refused_at("RESERVED comes last", 8, 5, 512, 3, ROOM, ROOM);
 
     printf("update from C: %d passed, %d failed\n", passed, failed);
     return failed != 0;
