@@ -14,7 +14,7 @@
 //! The work is done by the proved library behind the header `hpsdr.h`. Every call checks for itself, and works or
 //! gives one of nine [refusals](Refusal); after a refusal everything that was lent holds what it held before.
 //! [`Status::read_transfer`] goes frame by frame, and there this holds from the refused frame on: see [`Stopped`]. A
-//! refusal of what stands in a frame says which byte it was, or which code.
+//! refusal of what stands in a frame says which byte it was, or which code, bit or level.
 //!
 //! The library's archive, `libhpsdr.a`, is linked from the folder that the environment variable `HPSDR_ARCHIVE` names at
 //! build time; or from `target/archive` of the repository, where `./install` makes it; or from where pkg-config finds it

@@ -61,7 +61,7 @@ extern "C" {
     /// The status record that all-zero words give.
     pub fn hpsdr_status_fresh(status: *mut u32, status_cells: usize) -> u32;
 
-    /// Reads a radio frame; found is the word's address. Beside refusals 6 and 7 stands the place.
+    /// Reads a radio frame; found is the word's address. Beside refusals 6, 7 and 8 stands the place.
     pub fn hpsdr_radio_read(
         frame: *const u8,
         frame_length: usize,
@@ -75,7 +75,7 @@ extern "C" {
     ) -> u32;
 
     /// Reads 1 to 8 radio frames, one after another; found, on a refusal too, is the number of frames read. Beside
-    /// refusals 6 and 7 this is the refused frame's index, counted from 0, and the place is a byte of that frame.
+    /// refusals 6, 7 and 8 this is the refused frame's index, counted from 0, and the place is that of the frame.
     pub fn hpsdr_radio_read_transfer(
         input: *const u8,
         input_length: usize,

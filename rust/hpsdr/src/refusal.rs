@@ -6,7 +6,7 @@ use std::io;
 /// that it was lent as it was. [`Stopped`](crate::Stopped) is for the one call that reads several frames.
 ///
 /// Three of them say the place as well: [`NoSync`](Refusal::NoSync) and [`Padding`](Refusal::Padding) which byte of the
-/// frame it was, and [`Reserved`](Refusal::Reserved) which code or bit.
+/// frame it was, and [`Reserved`](Refusal::Reserved) which code or bit of a host frame or which level of a radio frame.
 ///
 /// ```
 /// use hpsdr::{layout, Refusal};
@@ -58,7 +58,7 @@ pub enum Refusal {
         /// The first of them that is not 0, as a byte of the frame, counted from 0: it is `frame[byte]`.
         byte: usize,
     },
-    /// 8: an unassigned host code or bit is set.
+    /// 8: an unassigned host code or bit is set, or a level of a radio frame is above 4,095.
     Reserved {
         /// Which one.
         cause: Cause,
@@ -125,8 +125,10 @@ impl From<Refusal> for io::Error {
     }
 }
 
-/// Which unassigned code or bit of a host frame is set. A frame carries one word, so two can be set in word 0 only, and
-/// then it is the source.
+/// What is wrong in a frame that is refused as [`Reserved`](Refusal::Reserved).
+///
+/// Of a host frame, which unassigned code or bit is set. A frame carries one word, so two can be set in word 0 only,
+/// and then it is the source.
 ///
 /// ```
 /// use hpsdr::{Cause, Host, Refusal, AUDIO, FRAME};
@@ -145,6 +147,27 @@ impl From<Refusal> for io::Error {
 /// assert_eq!(refusal.to_string(), "the transmit relay has the unassigned code 3");
 /// assert_eq!((refusal.number(), Cause::Relay.number()), (8, 2));
 /// ```
+///
+/// Of a radio frame, which level is above 4,095, so that the top four of its 16 bits are not all 0. Where both levels
+/// of a word are, it is the one in C1 and C2.
+///
+/// ```
+/// use hpsdr::{Cause, Refusal, Samples, Status, FRAME};
+///
+/// // Word 1 with both levels at 40,000, which is 9C 40: AIN5 in C1 and C2, and AIN1 in C3 and C4.
+/// let mut frame = [0; FRAME];
+/// frame[..8].copy_from_slice(&[0x7F, 0x7F, 0x7F, 0x08, 0x9C, 0x40, 0x9C, 0x40]);
+///
+/// let refusal = Status::fresh().read_frame(&frame, 1, &mut Samples::fresh()).unwrap_err();
+/// assert_eq!(refusal, Refusal::Reserved { cause: Cause::Ain5 });
+/// assert_eq!(refusal.to_string(), "level AIN5 is above 4,095");
+///
+/// // 4,095 is the greatest that there is.
+/// frame[4..6].copy_from_slice(&[0x0F, 0xFF]);
+/// let refusal = Status::fresh().read_frame(&frame, 1, &mut Samples::fresh()).unwrap_err();
+/// assert_eq!(refusal, Refusal::Reserved { cause: Cause::Ain1 });
+/// assert_eq!((refusal.number(), Cause::Ain1.number()), (8, 6));
+/// ```
 #[derive(Clone, Copy, Debug, PartialEq, Eq, Hash)]
 pub enum Cause {
     /// Word 0: the 10 MHz source, C1 bits 3-2, has the code 3.
@@ -155,33 +178,69 @@ pub enum Cause {
     Word9C4Bit7 = 3,
     /// Word 10: C1 bit 7 is set.
     Word10C1Bit7 = 4,
+    /// The radio's word 1: AIN5, C1 and C2, is above 4,095.
+    Ain5 = 5,
+    /// The radio's word 1: AIN1, C3 and C4, is above 4,095.
+    Ain1 = 6,
+    /// The radio's word 2: AIN2, C1 and C2, is above 4,095.
+    Ain2 = 7,
+    /// The radio's word 2: AIN3, C3 and C4, is above 4,095.
+    Ain3 = 8,
+    /// The radio's word 3: AIN4, C1 and C2, is above 4,095.
+    Ain4 = 9,
+    /// The radio's word 3: AIN6, C3 and C4, is above 4,095.
+    Ain6 = 10,
 }
 
 impl Cause {
-    /// The cause's number, 1 to 4.
+    /// The cause's number, 1 to 10.
     pub const fn number(self) -> u8 {
         self as u8
     }
 
-    /// No call gives a number above 4, nor 0.
+    /// No call gives a number above 10, nor 0.
     fn of(number: usize) -> Cause {
         match number {
             1 => Cause::Source10,
             2 => Cause::Relay,
             3 => Cause::Word9C4Bit7,
-            _ => Cause::Word10C1Bit7,
+            4 => Cause::Word10C1Bit7,
+            5 => Cause::Ain5,
+            6 => Cause::Ain1,
+            7 => Cause::Ain2,
+            8 => Cause::Ain3,
+            9 => Cause::Ain4,
+            _ => Cause::Ain6,
+        }
+    }
+
+    /// Whether it is a level of a radio frame.
+    pub(crate) const fn is_level(self) -> bool {
+        self as u8 >= Cause::Ain5 as u8
+    }
+
+    /// What its text begins with, and what it goes on with: a transfer's text has the frame of a level between them.
+    pub(crate) const fn text(self) -> (&'static str, &'static str) {
+        const ABOVE: &str = " is above 4,095";
+        match self {
+            Cause::Source10 => ("the 10 MHz source", " has the unassigned code 3"),
+            Cause::Relay => ("the transmit relay", " has the unassigned code 3"),
+            Cause::Word9C4Bit7 => ("word 9's C4 bit 7", " is set, which is unassigned"),
+            Cause::Word10C1Bit7 => ("word 10's C1 bit 7", " is set, which is unassigned"),
+            Cause::Ain5 => ("level AIN5", ABOVE),
+            Cause::Ain1 => ("level AIN1", ABOVE),
+            Cause::Ain2 => ("level AIN2", ABOVE),
+            Cause::Ain3 => ("level AIN3", ABOVE),
+            Cause::Ain4 => ("level AIN4", ABOVE),
+            Cause::Ain6 => ("level AIN6", ABOVE),
         }
     }
 }
 
 impl fmt::Display for Cause {
     fn fmt(&self, formatter: &mut fmt::Formatter<'_>) -> fmt::Result {
-        formatter.write_str(match self {
-            Cause::Source10 => "the 10 MHz source has the unassigned code 3",
-            Cause::Relay => "the transmit relay has the unassigned code 3",
-            Cause::Word9C4Bit7 => "word 9's C4 bit 7 is set, which is unassigned",
-            Cause::Word10C1Bit7 => "word 10's C1 bit 7 is set, which is unassigned",
-        })
+        let (what, how) = self.text();
+        write!(formatter, "{what}{how}")
     }
 }
 

@@ -7,6 +7,27 @@ use crate::samples::Samples;
 /// What the radio's words have told so far.
 ///
 /// `dot`, `dash` and `ptt` come with every accepted frame, the other fields with the word that is named.
+///
+/// The six levels, `ain1` to `ain6`, are 0 to 4,095 in every frame that is accepted or written. No level above 4,095
+/// comes out of any sequence of reads, transfers included, accepted or refused, into a record that began fresh, or that
+/// had none above 4,095 when they began, if nothing else writes to it between them. A level above 4,095 that stood in
+/// the record before is [`Range`](Refusal::Range) on writing, whichever word is written. No read refuses the record for
+/// it, and it stays as it was until an accepted frame carries that level.
+///
+/// ```
+/// use hpsdr::{Refusal, Samples, Status, Word, FRAME};
+///
+/// // A frame of zeros that carries word 2 leaves AIN5, and one that carries word 1 sets it.
+/// let (mut status, mut frame) = (Status { ain5: 40_000, ..Status::fresh() }, [0; FRAME]);
+/// frame[..4].copy_from_slice(&[0x7F, 0x7F, 0x7F, 2 << 3]);
+/// assert_eq!(status.read_frame(&frame, 1, &mut Samples::fresh()), Ok(Word::ReversePower));
+/// assert_eq!(status.ain5, 40_000);
+/// assert_eq!(status.write(Word::Inputs, 1, &[0; 126], &[0; 63], &mut frame), Err(Refusal::Range));
+///
+/// frame[3] = 1 << 3;
+/// assert_eq!(status.read_frame(&frame, 1, &mut Samples::fresh()), Ok(Word::ForwardPower));
+/// assert_eq!(status.ain5, 0);
+/// ```
 #[derive(Clone, Copy, Debug, PartialEq, Eq)]
 pub struct Status {
     /// DOT.
@@ -41,7 +62,7 @@ pub struct Status {
     pub penelope: u8,
     /// Word 0: the main board's serial number.
     pub main: u8,
-    /// Word 1: forward power AIN5.
+    /// Word 1: forward power AIN5; a frame holds up to 4,095.
     pub ain5: u16,
     /// Word 1: forward power AIN1.
     pub ain1: u16,
@@ -175,8 +196,13 @@ impl Status {
     /// where the padding of that number is not all 0 in the frame; 1 and 2 receivers have no padding. Where it is not
     /// refused, what comes out is the frame read as if it had so many.
     ///
-    /// Refusals: `BadCount`, `Length`, `ShortBuffer`, `NoSync`, `Padding`. The last two say which byte of the frame it
-    /// was.
+    /// Refusals: `BadCount`, `Length`, `ShortBuffer`, `NoSync`, `Padding`, `Reserved`. `NoSync` and `Padding` say which
+    /// byte of the frame it was. `Reserved` is for a level above 4,095 in the frame's word, if this is 1, 2 or 3, and
+    /// names the first such level in the order of C1 to C4. Words 0, 4 and unlisted ones carry no level: whatever their
+    /// C1 to C4 are, no frame is refused for them.
+    ///
+    /// A frame that is refused for a level is refused whole, its samples and its DOT, DASH and PTT too: whoever wants
+    /// the samples of such a frame does not get them.
     ///
     /// ```
     /// use hpsdr::{Status, Word, FRAME};
@@ -208,6 +234,20 @@ impl Status {
     /// assert_eq!(refusal, Refusal::Padding { byte: 510 });
     /// assert_eq!(status, Status::fresh());
     /// assert_eq!((iq, mic), ([7; 150], [8; 25]));
+    /// ```
+    ///
+    /// ```
+    /// use hpsdr::{Cause, Refusal, Status, FRAME};
+    ///
+    /// // Word 1 with DOT, and AIN5 at 40,000. All samples are 0.
+    /// let mut frame = [0; FRAME];
+    /// frame[..6].copy_from_slice(&[0x7F, 0x7F, 0x7F, 0x0C, 0x9C, 0x40]);
+    ///
+    /// let (mut status, mut iq, mut mic) = (Status::fresh(), [7; 126], [8; 63]);
+    /// let refusal = status.read(&frame, 1, &mut iq, &mut mic).unwrap_err();
+    /// assert_eq!(refusal, Refusal::Reserved { cause: Cause::Ain5 });
+    /// assert_eq!(status, Status::fresh());
+    /// assert_eq!((iq, mic), ([7; 126], [8; 63]));
     /// ```
     pub fn read(
         &mut self,
@@ -253,7 +293,8 @@ impl Status {
     /// Reads a frame of 1 to 8 receivers as [`read`](Status::read) does, into `samples`, where they stand by receiver.
     /// What is said there of the number of receivers is true here.
     ///
-    /// Refusals, which leave `samples` and the record as they were: `BadCount`, `Length`, `NoSync`, `Padding`.
+    /// Refusals, which leave `samples` and the record as they were: `BadCount`, `Length`, `NoSync`, `Padding`,
+    /// `Reserved`.
     ///
     /// ```
     /// use hpsdr::{Samples, Status, Word, FRAME};
@@ -286,7 +327,9 @@ impl Status {
     /// one above 4 is out of range. The frame does not carry the number of receivers; who [reads](Status::read) it has
     /// to know it.
     ///
-    /// Refusals: `BadCount`, `Length`, `ShortBuffer`, `Range`.
+    /// Refusals: `BadCount`, `Length`, `ShortBuffer`, and `Range` for such a word, a version above 127 or a level above
+    /// 4,095 anywhere in the record, whichever word is written, and an I or Q of this frame outside -8,388,608 to
+    /// 8,388,607.
     ///
     /// ```
     /// use hpsdr::{Refusal, Status, Word};

@@ -8,15 +8,19 @@ use std::io;
 /// Why the reading of a transfer stopped, and after how many frames. These frames stay read: their values stand in the
 /// slices, and the record is the one after them. All else is as it was.
 ///
-/// Where a frame was refused, for [`NoSync`](Refusal::NoSync) or [`Padding`](Refusal::Padding), it is the frame after
-/// these: `frames` is its index in the input, counted from 0, and the refusal's `byte` is a byte of that frame. For every
-/// other refusal no frame was looked at, and `frames` is 0.
+/// Where a frame was refused, for [`NoSync`](Refusal::NoSync), [`Padding`](Refusal::Padding) or
+/// [`Reserved`](Refusal::Reserved), it is the frame after these: `frames` is its index in the input, counted from 0,
+/// and the refusal's `byte` is a byte of that frame, its `cause` a level of that frame. For every other refusal no
+/// frame was looked at, and `frames` is 0.
 ///
 /// ```
-/// use hpsdr::{Refusal, Stopped};
+/// use hpsdr::{Cause, Refusal, Stopped};
 ///
 /// let stopped = Stopped { refusal: Refusal::Padding { byte: 509 }, frames: 3 };
 /// assert_eq!(stopped.to_string(), "padding byte 509 of frame 3 is not zero");
+///
+/// let stopped = Stopped { refusal: Refusal::Reserved { cause: Cause::Ain5 }, frames: 3 };
+/// assert_eq!(stopped.to_string(), "level AIN5 of frame 3 is above 4,095");
 ///
 /// let stopped = Stopped { refusal: Refusal::BadCount, frames: 0 };
 /// assert_eq!(stopped.to_string(), "the receiver count is not 1 to 8");
@@ -41,6 +45,10 @@ impl fmt::Display for Stopped {
                     formatter,
                     "padding byte {byte} of frame {frames} is not zero"
                 )
+            }
+            Refusal::Reserved { cause } if cause.is_level() => {
+                let (what, how) = cause.text();
+                write!(formatter, "{what} of frame {frames}{how}")
             }
             _ => refusal.fmt(formatter),
         }
@@ -73,7 +81,7 @@ impl Status {
     ///
     /// Refusals, before any frame is read: `BadCount`; `Length`, for an input that is not 1 to 8 times 512 bytes;
     /// `ShortBuffer`, for slices that are shorter than the whole input needs. Then the first refused frame's own,
-    /// `NoSync` or `Padding`, and there the reading [stops](Stopped).
+    /// `NoSync`, `Padding` or `Reserved`, and there the reading [stops](Stopped).
     ///
     /// ```
     /// use hpsdr::{Status, FRAME};
