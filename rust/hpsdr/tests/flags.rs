@@ -1,5 +1,5 @@
 //! Every flag of both records by itself, both ways: one bit of a word is one flag of a fresh record. So too the choice
-//! and the numbers of word 10.
+//! and the numbers of word 10, and the bits of each level.
 
 mod common;
 
@@ -8,6 +8,7 @@ use hpsdr::{Builder, Host, Jack, Status, Word, AUDIO};
 
 type FlagOf<R> = fn(&mut R) -> &mut bool;
 type NumberOf = fn(&mut Host) -> &mut u8;
+type LevelOf = fn(&mut Status) -> &mut u16;
 
 /// C0 to C4, and the flag. An input is active where its bit is 0, so its flag goes from true to false.
 const STATUS_FLAGS: [([u8; 5], FlagOf<Status>); 14] = [
@@ -70,6 +71,16 @@ const HOST_FLAGS: [([u8; 5], FlagOf<Host>); 38] = [
     }),
 ];
 
+/// The word and the byte of it where a level begins.
+const LEVELS: [(u8, usize, LevelOf); 6] = [
+    (1, 1, |status| &mut status.ain5),
+    (1, 3, |status| &mut status.ain1),
+    (2, 1, |status| &mut status.ain2),
+    (2, 3, |status| &mut status.ain3),
+    (3, 1, |status| &mut status.ain4),
+    (3, 3, |status| &mut status.ain6),
+];
+
 /// The byte of word 10 and the lowest bit of it where a number stands, and the most that its bits hold.
 const WORD_10_NUMBERS: [(usize, u8, u8, NumberOf); 4] = [
     (2, 0, 31, |host| &mut host.line_in_gain),
@@ -78,18 +89,37 @@ const WORD_10_NUMBERS: [(usize, u8, u8, NumberOf); 4] = [
     (4, 0, 255, |host| &mut host.word10_c4),
 ];
 
+/// The word read into a fresh record gives the status record, and the status record gives the word.
+fn status_both_ways(control: [u8; 5], expected: Status) {
+    let mut status = Status::fresh();
+    let got = status.read(&frame(control), 1, &mut [0; 126], &mut [0; 63]);
+    assert!(got.is_ok());
+    assert_eq!(status, expected, "{control:X?}");
+
+    let (word, mut written) = (Word::of(control[0] >> 3), [0xEE; 512]);
+    let got = expected.write(word, 1, &[0; 126], &[0; 63], &mut written);
+    assert_eq!((got, written), (Ok(()), frame(control)));
+}
+
 #[test]
 fn status_flags() {
     for (control, flag) in STATUS_FLAGS {
-        let (mut status, mut expected) = (Status::fresh(), Status::fresh());
-        let got = status.read(&frame(control), 1, &mut [0; 126], &mut [0; 63]);
-        assert!(got.is_ok());
+        let mut expected = Status::fresh();
         *flag(&mut expected) ^= true;
-        assert_eq!(status, expected, "{control:X?}");
+        status_both_ways(control, expected);
+    }
+}
 
-        let (word, mut written) = (Word::of(control[0] >> 3), [0xEE; 512]);
-        let got = expected.write(word, 1, &[0; 126], &[0; 63], &mut written);
-        assert_eq!((got, written), (Ok(()), frame(control)));
+/// Each of the twelve bits alone, and all of them. What is above them is refused: see `refusals.rs`.
+#[test]
+fn levels() {
+    for (word, byte, level) in LEVELS {
+        for value in (0..12).map(|bit| 1 << bit).chain([4095]) {
+            let (mut control, mut expected) = ([word << 3, 0, 0, 0, 0], Status::fresh());
+            control[byte..byte + 2].copy_from_slice(&u16::to_be_bytes(value));
+            *level(&mut expected) = value;
+            status_both_ways(control, expected);
+        }
     }
 }
 

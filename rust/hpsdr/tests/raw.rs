@@ -86,6 +86,63 @@ fn places_of_a_radio_read() {
     }
 }
 
+/// Words 1 to 3 with levels above 4,095, alone and in each frame of a transfer, by the numbers of their causes; then
+/// with padding that is not 0, and without a byte of sync. Words that carry no level have no cause.
+#[test]
+fn places_of_levels() {
+    let cases = [
+        ([0x08, 0x9C, 0x40, 0x00, 0x00], 0x0005_0008),
+        ([0x0F, 0x9C, 0x40, 0x9C, 0x40], 0x0005_0008),
+        ([0x08, 0x0F, 0xFF, 0x10, 0x00], 0x0006_0008),
+        ([0x10, 0x80, 0x00, 0xFF, 0xFF], 0x0007_0008),
+        ([0x17, 0x00, 0x00, 0x20, 0x00], 0x0008_0008),
+        ([0x18, 0x40, 0x00, 0x0F, 0xFF], 0x0009_0008),
+        ([0x1B, 0x0F, 0xFF, 0xFF, 0xFF], 0x000A_0008),
+    ];
+    for (control, returned) in cases {
+        let mut frame = frame(control);
+        assert_eq!(radio_read(&frame, 3), returned);
+        for frames in 0..8 {
+            let mut input = [with_ones(&[]); 8];
+            input[frames] = frame;
+            let got = transfer(&input.concat(), 3);
+            assert_eq!(got, returned | (frames as u32) << 8);
+        }
+        frame[510] = 1;
+        assert_eq!(radio_read(&frame, 3), 0x01FE_0007);
+        frame[1] = 0;
+        assert_eq!(radio_read(&frame, 3), 0x0001_0006);
+    }
+    for address in [0, 4, 5, 16, 31] {
+        let frame = frame([address << 3, 0xFF, 0xFF, 0xFF, 0xFF]);
+        assert_eq!(radio_read(&frame, 3), u32::from(address) << 8);
+    }
+}
+
+/// The cells of the six levels, 16 to 21: a read takes up to 65,535 in each, and a write up to 4,095.
+#[test]
+fn cells_of_levels() {
+    let call = raw::hpsdr_radio_read;
+    for cell in 16..22 {
+        for (level, read_gives, write_gives) in [
+            (4095, 0, 0),
+            (4096, 0, 9),
+            (65_535, 0, 9),
+            (65_536, 1, 1),
+            (u32::MAX, 1, 1),
+        ] {
+            let mut status = STATUS;
+            status[cell] = level;
+            let got = read(call, &frame([0; 5]), 3, (150, 25), &status);
+            assert_eq!(got, read_gives, "{level} in cell {cell}");
+            for word in 0..5 {
+                let got = radio_write_of(&status, word, 3, &[0; 150], 25, 512);
+                assert_eq!(got, write_gives, "{level} in cell {cell}, word {word}");
+            }
+        }
+    }
+}
+
 /// Frame 3 of eight is damaged, and frame 5.
 #[test]
 fn places_of_a_transfer() {
@@ -182,12 +239,23 @@ fn no_place_of_a_host_read() {
 }
 
 fn radio_write(word: usize, receivers: usize, iq: &[i32], mic: usize, frame: usize) -> u32 {
+    radio_write_of(&STATUS, word, receivers, iq, mic, frame)
+}
+
+fn radio_write_of(
+    status: &[u32],
+    word: usize,
+    receivers: usize,
+    iq: &[i32],
+    mic: usize,
+    frame: usize,
+) -> u32 {
     let (mic, mut frame) = (vec![0; mic], vec![0; frame]);
     // SAFETY: each pointer and number are those of one slice, and none overlaps another.
     unsafe {
         raw::hpsdr_radio_write(
-            STATUS.as_ptr(),
-            STATUS.len(),
+            status.as_ptr(),
+            status.len(),
             word,
             receivers,
             iq.as_ptr(),

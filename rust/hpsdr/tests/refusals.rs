@@ -148,10 +148,112 @@ fn padding_bytes_by_hand() {
     }
 }
 
+type LevelOf = fn(&mut Status) -> &mut u16;
+
+/// The levels in C1 and C2 and in C3 and C4 of words 1 to 3.
+const LEVELS: [[(Cause, LevelOf); 2]; 3] = [
+    [
+        (Cause::Ain5, |status| &mut status.ain5),
+        (Cause::Ain1, |status| &mut status.ain1),
+    ],
+    [
+        (Cause::Ain2, |status| &mut status.ain2),
+        (Cause::Ain3, |status| &mut status.ain3),
+    ],
+    [
+        (Cause::Ain4, |status| &mut status.ain4),
+        (Cause::Ain6, |status| &mut status.ain6),
+    ],
+];
+
+/// A frame that carries a word with two levels, with DOT, DASH and PTT.
+fn with_levels(word: u8, first: u16, second: u16) -> [u8; 512] {
+    let ([c1, c2], [c3, c4]) = (first.to_be_bytes(), second.to_be_bytes());
+    frame([word << 3 | 7, c1, c2, c3, c4])
+}
+
+/// Every value of the four bits above, alone, with all the bits below, and with the least of the other level's four.
+#[test]
+fn every_level_above_4095() {
+    for (word, [(first, _), (second, _)]) in (1..).zip(LEVELS) {
+        let refused = |levels: (u16, u16), cause| {
+            let frame = with_levels(word, levels.0, levels.1);
+            refused_read(&frame, 1, 126, 63, Refusal::Reserved { cause });
+        };
+        for bits in 1..16 {
+            for level in [bits << 12, bits << 12 | 0x0FFF] {
+                refused((level, 0), first);
+                refused((level, 4095), first);
+                refused((level, 4096), first);
+                refused((0, level), second);
+                refused((4095, level), second);
+                refused((4096, level), first);
+            }
+        }
+    }
+}
+
+/// By their numbers: 40,000 is 9C 40.
+#[test]
+fn levels_by_hand() {
+    let cases = [
+        ([0x08, 0x9C, 0x40, 0, 0], Cause::Ain5),
+        ([0x08, 0, 0, 0x9C, 0x40], Cause::Ain1),
+        ([0x0F, 0x9C, 0x40, 0x9C, 0x40], Cause::Ain5),
+        ([0x10, 0x10, 0x00, 0, 0], Cause::Ain2),
+        ([0x10, 0x0F, 0xFF, 0x10, 0x00], Cause::Ain3),
+        ([0x18, 0x1F, 0xFF, 0x0F, 0xFF], Cause::Ain4),
+        ([0x18, 0x0F, 0xFF, 0xFF, 0xFF], Cause::Ain6),
+    ];
+    for (control, cause) in cases {
+        let refusal = Refusal::Reserved { cause };
+        refused_read(&frame(control), 1, 126, 63, refusal);
+        assert_eq!(refusal.number(), 8);
+    }
+    let got = Status::fresh().read_frame(&frame(cases[0].0), 1, &mut Samples::fresh());
+    assert_eq!(got.unwrap_err().to_string(), "level AIN5 is above 4,095");
+}
+
+/// A record of one high level after another: a frame that is refused for its own leaves it.
+#[test]
+fn a_level_above_4095_into_a_record_of_such() {
+    for (_, level) in LEVELS.as_flattened() {
+        let mut given = Status::fresh();
+        *level(&mut given) = 65_535;
+        for (word, [_, (cause, _)]) in (1..).zip(LEVELS) {
+            let (mut status, mut samples) = (given, Samples::fresh());
+            let got = status.read_frame(&with_levels(word, 1, 4096), 1, &mut samples);
+            assert_eq!((got, status), (Err(Refusal::Reserved { cause }), given));
+        }
+    }
+}
+
+/// Whatever C0 to C4 are, no level above 4,095 comes out of reads into a record that began fresh.
+#[test]
+fn no_level_above_4095_after_any_read() {
+    let (mut status, mut samples) = (Status::fresh(), Samples::fresh());
+    let (mut state, mut taken, mut refused): (u32, u32, u32) = (1, 0, 0);
+    let mut noise = |mask: u8| {
+        state = state.wrapping_mul(1_664_525).wrapping_add(1_013_904_223);
+        (state >> 24) as u8 & mask
+    };
+    for _ in 0..20_000 {
+        let control = [0x3F, 0x1F, 0xFF, 0x1F, 0xFF].map(&mut noise);
+        match status.read_frame(&frame(control), 1, &mut samples) {
+            Ok(_) => taken += 1,
+            Err(_) => refused += 1,
+        }
+        for (_, level) in LEVELS.as_flattened() {
+            assert!(*level(&mut status) <= 4095, "after {control:X?}");
+        }
+    }
+    assert!(taken > 1000 && refused > 1000, "{taken} and {refused}");
+}
+
 /// The first that holds is given, each case mending one more thing than the one before.
 #[test]
 fn order_of_a_read() {
-    let mut bad = frame([0; 5]);
+    let mut bad = with_levels(3, 4096, 65_535);
     (bad[1], bad[510]) = (0, 1);
     refused_read(&bad[..511], 9, 0, 0, Refusal::BadCount);
     refused_read(&bad[..511], 3, 0, 0, Refusal::Length);
@@ -159,6 +261,12 @@ fn order_of_a_read() {
     refused_read(&bad, 3, 150, 25, Refusal::NoSync { byte: 1 });
     bad[1] = 0x7F;
     refused_read(&bad, 3, 150, 25, Refusal::Padding { byte: 510 });
+    bad[510] = 0;
+    let cause = Cause::Ain4;
+    refused_read(&bad, 3, 150, 25, Refusal::Reserved { cause });
+    bad[4] = 0x0F;
+    let cause = Cause::Ain6;
+    refused_read(&bad, 3, 150, 25, Refusal::Reserved { cause });
 }
 
 fn refused_write(
@@ -222,6 +330,21 @@ fn radio_write_of_values_that_do_not_fit() {
     for status in [board1, board2, board3, board4] {
         let word = (Word::Inputs, 1);
         refused_write(status, word, (&[0; 126], &mic), 512, Refusal::Range);
+    }
+}
+
+/// Whichever word is written.
+#[test]
+fn radio_write_of_levels_that_do_not_fit() {
+    for (_, level) in LEVELS.as_flattened() {
+        for value in [4096, 8191, 40_000, 65_535] {
+            let mut status = Status::fresh();
+            *level(&mut status) = value;
+            for word in (0..5).map(Word::of) {
+                let both = ([0; 126].as_slice(), [0; 63].as_slice());
+                refused_write(status, (word, 1), both, 512, Refusal::Range);
+            }
+        }
     }
 }
 
@@ -432,6 +555,12 @@ fn numbers_and_texts_with_a_cause() {
             Cause::Word10C1Bit7,
             "word 10's C1 bit 7 is set, which is unassigned",
         ),
+        (Cause::Ain5, "level AIN5 is above 4,095"),
+        (Cause::Ain1, "level AIN1 is above 4,095"),
+        (Cause::Ain2, "level AIN2 is above 4,095"),
+        (Cause::Ain3, "level AIN3 is above 4,095"),
+        (Cause::Ain4, "level AIN4 is above 4,095"),
+        (Cause::Ain6, "level AIN6 is above 4,095"),
     ];
     for (number, (cause, text)) in (1..).zip(causes) {
         assert_eq!(cause.number(), number);

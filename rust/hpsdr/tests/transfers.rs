@@ -3,15 +3,16 @@
 mod common;
 
 use common::frame;
-use hpsdr::{layout, Refusal, Row, Status, Stopped, FRAME, MOST_FRAMES};
+use hpsdr::{layout, Cause, Refusal, Row, Status, Stopped, FRAME, MOST_FRAMES};
 use std::error::Error;
 use std::io;
 
-/// Frames of a number of receivers that carry words 0 to 4 in turn. No two have the same samples.
+/// Frames of a number of receivers that carry words 0 to 4 in turn, none with a level above 4,095. No two have the same
+/// samples.
 fn frames(count: usize, row: Row) -> Vec<u8> {
     let numbered = |at: usize| {
         let number = at as u8;
-        let mut one = frame([((number % 5) << 3) | (number % 8), number, 0x12, 0x34, 0x56]);
+        let mut one = frame([((number % 5) << 3) | (number % 8), number, 0x12, 0x04, 0x56]);
         for (place, byte) in one[8..FRAME - row.padding].iter_mut().enumerate() {
             *byte = (place * 7 + at * 29) as u8;
         }
@@ -109,6 +110,66 @@ fn stops_at_a_frame_with_damaged_padding() {
     }
 }
 
+/// Each of eight frames has a level above 4,095 in turn, with all keys: alone, then with the one in C3 and C4 too, and
+/// with all behind it damaged.
+#[test]
+fn stops_at_a_frame_with_a_level_above_4095() {
+    let levels = [
+        ([1 << 3 | 7, 0x10, 0, 0, 1], Cause::Ain5),
+        ([1 << 3 | 7, 0, 1, 0x10, 0], Cause::Ain1),
+        ([2 << 3 | 7, 0x20, 0, 0, 1], Cause::Ain2),
+        ([2 << 3 | 7, 0, 1, 0x40, 0], Cause::Ain3),
+        ([3 << 3 | 7, 0x80, 0, 0, 1], Cause::Ain4),
+        ([3 << 3 | 7, 0, 1, 0xF0, 0], Cause::Ain6),
+    ];
+    for receivers in 1..=8 {
+        for (control, cause) in levels {
+            stops_at_each_level(receivers, control, Refusal::Reserved { cause });
+        }
+    }
+}
+
+fn stops_at_each_level(receivers: usize, control: [u8; 5], refusal: Refusal) {
+    let row = layout(receivers).unwrap();
+    let whole = frames(MOST_FRAMES, row);
+    for frames in 0..MOST_FRAMES {
+        let at = FRAME * frames;
+        let mut input = whole.clone();
+        input[at + 3..at + 8].copy_from_slice(&control);
+        let mut more = input.clone();
+        more[at + 6] |= 0x10;
+        more[at + FRAME..].fill(0xFF);
+        for input in [input, more] {
+            let mut stopped = Lent::for_frames(MOST_FRAMES, receivers, row);
+            let mut before = stopped.clone();
+            let got = stopped.read_transfer(&input, receivers);
+            assert_eq!(got, Err(Stopped { refusal, frames }));
+            before.read_singly(&whole[..at], receivers, row);
+            assert_eq!(stopped, before, "after {frames} frames of {receivers}");
+        }
+    }
+}
+
+/// In one frame sync and padding are tested before a level.
+#[test]
+fn order_in_the_refused_frame() {
+    let row = layout(3).unwrap();
+    let mut input = frames(4, row);
+    input[3 * FRAME + 3..][..3].copy_from_slice(&[1 << 3, 0x9C, 0x40]);
+    (input[3 * FRAME + 2], input[3 * FRAME + 509]) = (0, 1);
+    let stops = |input: &[u8], refusal| {
+        let got = Lent::for_frames(4, 3, row).read_transfer(input, 3);
+        let frames = 3;
+        assert_eq!(got, Err(Stopped { refusal, frames }));
+    };
+    stops(&input, Refusal::NoSync { byte: 2 });
+    input[3 * FRAME + 2] = 0x7F;
+    stops(&input, Refusal::Padding { byte: 509 });
+    input[3 * FRAME + 509] = 0;
+    let cause = Cause::Ain5;
+    stops(&input, Refusal::Reserved { cause });
+}
+
 /// The number of the later refusal is lower.
 #[test]
 fn the_first_refused_frame_decides() {
@@ -198,6 +259,27 @@ fn texts_of_a_refused_frame() {
     says(padding(488), 0, "padding byte 488 of frame 0 is not zero");
     says(padding(509), 3, "padding byte 509 of frame 3 is not zero");
     says(padding(511), 7, "padding byte 511 of frame 7 is not zero");
+}
+
+/// A cause of a host frame, which no transfer has, says no frame.
+#[test]
+fn texts_of_a_cause() {
+    let texts = [
+        (Cause::Ain5, 3, "level AIN5 of frame 3 is above 4,095"),
+        (Cause::Ain1, 0, "level AIN1 of frame 0 is above 4,095"),
+        (Cause::Ain2, 1, "level AIN2 of frame 1 is above 4,095"),
+        (Cause::Ain3, 2, "level AIN3 of frame 2 is above 4,095"),
+        (Cause::Ain4, 4, "level AIN4 of frame 4 is above 4,095"),
+        (Cause::Ain6, 7, "level AIN6 of frame 7 is above 4,095"),
+        (
+            Cause::Word10C1Bit7,
+            1,
+            "word 10's C1 bit 7 is set, which is unassigned",
+        ),
+    ];
+    for (cause, frames, text) in texts {
+        says(Refusal::Reserved { cause }, frames, text);
+    }
 }
 
 #[test]

@@ -33,7 +33,7 @@ const STATUS: Status = Status {
     ain2: 0x0506,
     ain3: 0x0708,
     ain4: 0x090A,
-    ain6: 0xFFFE,
+    ain6: 0x0FFE,
     board1: 127,
     board2: 1,
     board3: 2,
@@ -45,7 +45,7 @@ const STATUS_WORDS: [[u8; 5]; 5] = [
     [0x05, 0b0011_0011, 0x12, 0x34, 0xFF],
     [0x0D, 0x01, 0x02, 0x03, 0x04],
     [0x15, 0x05, 0x06, 0x07, 0x08],
-    [0x1D, 0x09, 0x0A, 0xFF, 0xFE],
+    [0x1D, 0x09, 0x0A, 0x0F, 0xFE],
     [0x25, 0xFF, 0x02, 0x05, 0x81],
 ];
 
@@ -167,6 +167,73 @@ fn unlisted_words_of_the_radio_set_the_keys_only() {
             ..STATUS
         };
         assert_eq!(status, expected);
+    }
+}
+
+/// Words 0 and 4 carry no level, and take every bit.
+#[test]
+fn words_without_levels_take_any_bytes() {
+    let inputs = Status {
+        dot: true,
+        dash: true,
+        ptt: true,
+        adc1: true,
+        io1: false,
+        io2: false,
+        io3: false,
+        io4: false,
+        pll: true,
+        toggle: true,
+        mercury: 255,
+        penelope: 255,
+        main: 255,
+        ..Status::fresh()
+    };
+    let versions = Status {
+        dot: true,
+        dash: true,
+        ptt: true,
+        adc1: true,
+        adc2: true,
+        adc3: true,
+        adc4: true,
+        board1: 127,
+        board2: 127,
+        board3: 127,
+        board4: 127,
+        ..Status::fresh()
+    };
+    for (word, expected) in [(Word::Inputs, inputs), (Word::Versions, versions)] {
+        let mut status = Status::fresh();
+        let control = [word.address() << 3 | 7, 0xFF, 0xFF, 0xFF, 0xFF];
+        let got = status.read(&frame(control), 1, &mut [0; 126], &mut [0; 63]);
+        assert_eq!((got, status), (Ok(word), expected));
+    }
+}
+
+/// Levels that no frame has are not a read's to refuse: they stay but for those of the word, which are 0 in the frame.
+#[test]
+fn high_levels_of_the_record() {
+    let high = Status {
+        ain5: 4096,
+        ain1: 40_000,
+        ain2: 8191,
+        ain3: 65_535,
+        ain4: 4097,
+        ain6: 32_768,
+        ..Status::fresh()
+    };
+    for address in 0..32 {
+        let (mut status, mut expected) = (high, high);
+        match address {
+            1 => (expected.ain5, expected.ain1) = (0, 0),
+            2 => (expected.ain2, expected.ain3) = (0, 0),
+            3 => (expected.ain4, expected.ain6) = (0, 0),
+            _ => {}
+        }
+        let control = [address << 3, 0, 0, 0, 0];
+        let got = status.read(&frame(control), 1, &mut [0; 126], &mut [0; 63]);
+        assert_eq!((got, status), (Ok(Word::of(address)), expected));
     }
 }
 
