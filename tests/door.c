@@ -778,6 +778,37 @@ static void test_level_stops(size_t receivers, const struct level_word *of, size
     }
 }
 
+/* Unlisted words with every bit, read into a record whose levels no frame has: these stay. */
+static void test_unlisted_transfers(uint32_t level) {
+    for (uint8_t first = LAST_WORD + 1; first + HPSDR_MOST_FRAMES <= 32; first++) {
+        set_out_transfer(1, HPSDR_MOST_FRAMES);
+        raise_levels(&lent, level);
+        for (uint8_t number = 0; number < HPSDR_MOST_FRAMES; number++)
+            put_levels(lent.input[1] + HPSDR_FRAME * number, (uint8_t)((first + number) << 3 | 7), 0xFFFF, 0xFFFF);
+        expect_unchanged();
+        put_samples(&expected, 1, HPSDR_MOST_FRAMES);
+        expected.status[1].dot = expected.status[1].dash = expected.status[1].ptt = 1;
+        run("transfer of unlisted words", radio_read_transfer, HPSDR_ACCEPTED, HPSDR_MOST_FRAMES);
+    }
+}
+
+/* Words 1 to 3 with the greatest levels there are, read into such a record: the levels of each word that came are
+ * replaced. */
+static void test_transfers_of_levels(uint32_t level) {
+    for (uint32_t frames = 1; level_words + frames <= level_words_end; frames++) {
+        set_out_transfer(1, frames);
+        raise_levels(&lent, level);
+        for (size_t number = 0; number < frames; number++)
+            put_levels(lent.input[1] + HPSDR_FRAME * number, (uint8_t)(level_words[number].word << 3), LEVEL_MOST,
+                       LEVEL_MOST);
+        expect_unchanged();
+        put_samples(&expected, 1, frames);
+        for (const struct level_word *of = level_words; of < level_words + frames; of++)
+            *status_cell(&expected, of->cells[0]) = *status_cell(&expected, of->cells[1]) = LEVEL_MOST;
+        run("transfer of the greatest levels", radio_read_transfer, HPSDR_ACCEPTED, frames);
+    }
+}
+
 /* C0 to C4 of one of the words 0 to 7, and of the high bytes of levels seven in eight good, so that frames of both
  * kinds come. */
 static void put_noise(uint8_t *frame) {
@@ -1310,6 +1341,10 @@ int main(void) {
         }
     }
     test_all_stops();
+    test_unlisted_transfers(4096);
+    test_unlisted_transfers(65535);
+    test_transfers_of_levels(4096);
+    test_transfers_of_levels(65535);
     test_no_level_above();
     test_transfer_lengths();
     test_transfer_refusals();

@@ -1,9 +1,12 @@
 //! Transfers of 1 to 8 frames: each is as many single reads, up to the first refused frame.
 
 mod common;
+#[path = "common/levels.rs"]
+mod levels;
 
 use common::frame;
 use hpsdr::{layout, Cause, Refusal, Row, Status, Stopped, FRAME, MOST_FRAMES};
+use levels::high_levels;
 use std::error::Error;
 use std::io;
 
@@ -69,20 +72,22 @@ fn as_many_single_reads() {
     }
 }
 
-/// Damages each of eight frames in turn, at one byte of it: alone, then with all behind it up to an end, and with the
-/// whole frame behind.
-fn stops_at_each(receivers: usize, byte: usize, end: usize, refusal: Refusal) {
+/// Damages each of eight frames in turn, and then more of what stands from that frame on.
+fn stops_at_each(
+    receivers: usize,
+    refusal: Refusal,
+    damage: impl Fn(&mut [u8]),
+    more: impl Fn(&mut [u8]),
+) {
     let row = layout(receivers).unwrap();
     let whole = frames(MOST_FRAMES, row);
     for frames in 0..MOST_FRAMES {
         let at = FRAME * frames;
-        let mut input = whole.clone();
-        input[at + byte] ^= 0x80;
-        let mut more = input.clone();
-        more[at + byte + 1..at + end].fill(0xFF);
-        let behind = &mut more[at + FRAME..];
-        behind.iter_mut().take(FRAME).for_each(|byte| *byte = 0xFF);
-        for input in [input, more] {
+        let mut damaged = whole.clone();
+        damage(&mut damaged[at..]);
+        let mut worse = damaged.clone();
+        more(&mut worse[at..]);
+        for input in [damaged, worse] {
             let mut stopped = Lent::for_frames(MOST_FRAMES, receivers, row);
             let mut before = stopped.clone();
             let got = stopped.read_transfer(&input, receivers);
@@ -93,10 +98,21 @@ fn stops_at_each(receivers: usize, byte: usize, end: usize, refusal: Refusal) {
     }
 }
 
+/// At one byte of a frame: alone, then with all behind it up to an end, and with the whole frame behind.
+fn stops_at_each_byte(receivers: usize, byte: usize, end: usize, refusal: Refusal) {
+    let damage = |rest: &mut [u8]| rest[byte] ^= 0x80;
+    let more = |rest: &mut [u8]| {
+        rest[byte + 1..end].fill(0xFF);
+        let behind = &mut rest[FRAME..];
+        behind.iter_mut().take(FRAME).for_each(|byte| *byte = 0xFF);
+    };
+    stops_at_each(receivers, refusal, damage, more);
+}
+
 #[test]
 fn stops_at_a_frame_without_sync() {
     for receivers in 1..=8 {
-        (0..3).for_each(|byte| stops_at_each(receivers, byte, 3, Refusal::NoSync { byte }));
+        (0..3).for_each(|byte| stops_at_each_byte(receivers, byte, 3, Refusal::NoSync { byte }));
     }
 }
 
@@ -105,7 +121,7 @@ fn stops_at_a_frame_with_damaged_padding() {
     for receivers in 3..=8 {
         let padding = layout(receivers).unwrap().padding;
         for byte in FRAME - padding..FRAME {
-            stops_at_each(receivers, byte, FRAME, Refusal::Padding { byte });
+            stops_at_each_byte(receivers, byte, FRAME, Refusal::Padding { byte });
         }
     }
 }
@@ -130,24 +146,46 @@ fn stops_at_a_frame_with_a_level_above_4095() {
 }
 
 fn stops_at_each_level(receivers: usize, control: [u8; 5], refusal: Refusal) {
-    let row = layout(receivers).unwrap();
-    let whole = frames(MOST_FRAMES, row);
-    for frames in 0..MOST_FRAMES {
-        let at = FRAME * frames;
-        let mut input = whole.clone();
-        input[at + 3..at + 8].copy_from_slice(&control);
-        let mut more = input.clone();
-        more[at + 6] |= 0x10;
-        more[at + FRAME..].fill(0xFF);
-        for input in [input, more] {
-            let mut stopped = Lent::for_frames(MOST_FRAMES, receivers, row);
-            let mut before = stopped.clone();
-            let got = stopped.read_transfer(&input, receivers);
-            assert_eq!(got, Err(Stopped { refusal, frames }));
-            before.read_singly(&whole[..at], receivers, row);
-            assert_eq!(stopped, before, "after {frames} frames of {receivers}");
-        }
+    let damage = |rest: &mut [u8]| rest[3..8].copy_from_slice(&control);
+    let more = |rest: &mut [u8]| {
+        rest[6] |= 0x10;
+        rest[FRAME..].fill(0xFF);
+    };
+    stops_at_each(receivers, refusal, damage, more);
+}
+
+/// A record whose levels no frame has, and words that do not carry them, with every bit: all are read, and the levels
+/// stay. Then words 1 to 3 with the greatest levels there are.
+#[test]
+fn high_levels_of_the_record() {
+    let high = high_levels();
+    let read = |addresses: [u8; 3], high_byte| {
+        let control = |address| [address << 3, high_byte, 0xFF, high_byte, 0xFF];
+        let input = addresses.map(|address| frame(control(address))).concat();
+        let mut status = high;
+        let got = status.read_transfer(&input, 1, &mut [0; 3 * 126], &mut [0; 3 * 63]);
+        assert_eq!(got, Ok(3), "words {addresses:?}");
+        status
+    };
+    for first in 5..30 {
+        assert_eq!(read([first, first + 1, first + 2], 0xFF), high);
     }
+    let after = read([0, 4, 31], 0xFF);
+    assert_eq!((after.main, after.board4), (255, 127));
+    assert_eq!((after.ain5, after.ain1, after.ain2), (4096, 40_000, 8191));
+    assert_eq!((after.ain3, after.ain4, after.ain6), (65_535, 4097, 32_768));
+
+    let after = read([1, 2, 3], 0x0F);
+    let greatest = Status {
+        ain5: 4095,
+        ain1: 4095,
+        ain2: 4095,
+        ain3: 4095,
+        ain4: 4095,
+        ain6: 4095,
+        ..Status::fresh()
+    };
+    assert_eq!(after, greatest);
 }
 
 /// In one frame sync and padding are tested before a level.

@@ -4,12 +4,15 @@
 #![allow(clippy::unusual_byte_groupings)]
 
 mod common;
+#[path = "common/levels.rs"]
+mod levels;
 
 use common::frame;
 use hpsdr::{
     Antenna, Attenuator, Boards, Builder, Host, Jack, Microphone, Relay, Source10, Source122,
     Speed, Status, Word, AUDIO,
 };
+use levels::high_levels;
 
 const STATUS: Status = Status {
     dot: true,
@@ -214,15 +217,7 @@ fn words_without_levels_take_any_bytes() {
 /// Levels that no frame has are not a read's to refuse: they stay but for those of the word, which are 0 in the frame.
 #[test]
 fn high_levels_of_the_record() {
-    let high = Status {
-        ain5: 4096,
-        ain1: 40_000,
-        ain2: 8191,
-        ain3: 65_535,
-        ain4: 4097,
-        ain6: 32_768,
-        ..Status::fresh()
-    };
+    let high = high_levels();
     for address in 0..32 {
         let (mut status, mut expected) = (high, high);
         match address {
