@@ -149,10 +149,11 @@ static void levels(size_t word, uint32_t first, uint32_t second)
 }
 
 // A record with every level at 65,535: a word without levels leaves them, one with levels replaces its own, and no word
-// is refused for what the record has.
+// is refused for what the record has. The word's bytes are 0, and ff in an unlisted one.
 static void high_record(size_t word)
 {
-    fresh((uint8_t)(word << 3), 0, 0, 0, 0);
+    const uint8_t byte = word > 4 ? 0xff : 0;
+    fresh((uint8_t)(word << 3), byte, byte, byte, byte);
     memset(&status, 0, sizeof status);
     for (size_t of = 1; of <= 3; of++) {
         put_level(&status, level_words[of].first, 65535);
