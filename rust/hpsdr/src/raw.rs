@@ -75,7 +75,8 @@ extern "C" {
     ) -> u32;
 
     /// Reads 1 to 8 radio frames, one after another; found, on a refusal too, is the number of frames read. Beside
-    /// refusals 6, 7 and 8 this is the refused frame's index, counted from 0, and the place is that of the frame.
+    /// refusals 6, 7 and 8 this is the refused frame's index, counted from 0, and the place is the one that
+    /// [`hpsdr_radio_read`] gives for that frame.
     pub fn hpsdr_radio_read_transfer(
         input: *const u8,
         input_length: usize,
