@@ -1,7 +1,7 @@
 //! An independent implementation of the frames and the stream reader that
 //! document 01 (the scope) defines, with the requests T-01 (transfers), T-02
-//! (the place of a refusal), T-03 (I and Q toward the radio are swapped) and
-//! T-07 (host word 10).
+//! (the place of a refusal), T-03 (I and Q toward the radio are swapped), T-07
+//! (host word 10) and T-08 (levels are twelve bits).
 //!
 //! Every refusal is `Err` of a [`Refusal`], which has the scope's number and,
 //! for 6, 7 and 8, says its place:

@@ -2,14 +2,17 @@
 
 use crate::bits::{bit, byte, flags};
 use crate::frame::{begin, open, row, slot_size, whole, whole_mut, Control, FRAME, IQ_SIZE};
-use crate::refusal::Refusal;
+use crate::refusal::{Cause, Refusal};
 
 const SAMPLE_LEAST: i32 = -8_388_608;
 const SAMPLE_MOST: i32 = 8_388_607;
 const VERSION_MOST: u8 = 127;
+/// All analog levels are 12 bits (T-08).
+const LEVEL_MOST: u16 = 4_095;
 const LAST_WORD: usize = 4;
 
-/// What the radio has told.
+/// What the radio has told. Its levels are at most 4,095, unless the caller's
+/// record held more and no word has brought another.
 #[derive(Clone, Copy, Debug, PartialEq, Eq)]
 pub struct Status {
     /// DOT, from every frame.
@@ -128,8 +131,27 @@ impl Status {
     }
 
     fn fits(&self) -> bool {
+        let levels = [
+            self.ain5, self.ain1, self.ain2, self.ain3, self.ain4, self.ain6,
+        ];
         self.versions.iter().all(|&version| version <= VERSION_MOST)
+            && levels.iter().all(|&level| level <= LEVEL_MOST)
     }
+}
+
+/// The first level of the word whose top four bits are not all 0.
+#[inline]
+fn reserved([c0, c1, _, c3, _]: Control) -> Option<Cause> {
+    let (first, second) = match c0 >> 3 {
+        1 => (Cause::Ain5, Cause::Ain1),
+        2 => (Cause::Ain2, Cause::Ain3),
+        3 => (Cause::Ain4, Cause::Ain6),
+        _ => return None,
+    };
+    if c1 >> 4 != 0 {
+        return Some(first);
+    }
+    (c3 >> 4 != 0).then_some(second)
 }
 
 fn levels(first: u16, second: u16) -> [u8; 4] {
@@ -142,8 +164,9 @@ fn levels(first: u16, second: u16) -> [u8; 4] {
 /// 31.
 ///
 /// Refused: 2 for a receiver count not 1 to 8, 3 for a frame not of 512 bytes,
-/// 4 for a sample slice too short, 6 without sync, 7 for padding not zero. The
-/// last two say the first byte that is wrong.
+/// 4 for a sample slice too short, 6 without sync, 7 for padding not zero, 8
+/// for a level of the word above 4,095. The last three say the first byte or
+/// level that is wrong.
 pub fn radio_read(
     frame: &[u8],
     receivers: usize,
@@ -161,6 +184,9 @@ pub fn radio_read(
     if padding.iter().any(|&byte| byte != 0) {
         return Err(not_zero(padding));
     }
+    if let Some(cause) = reserved(control) {
+        return Err(Refusal::Reserved { cause });
+    }
     read_slots(slots, receivers, iq, mic);
     Ok(status.take(control))
 }
@@ -169,7 +195,8 @@ pub fn radio_read(
 ///
 /// Refused: 2 for a receiver count not 1 to 8, 3 for a frame not of 512 bytes,
 /// 4 for a sample slice too short, 9 for a needed sample outside 24 bits, a
-/// version above 127 or a word above 4.
+/// version above 127, a level above 4,095 or a word above 4. The whole record
+/// is tested, whichever word is due.
 pub fn radio_write(
     status: &Status,
     word: usize,

@@ -24,16 +24,17 @@ pub enum Refusal {
         /// The first such byte, as a byte of the frame.
         byte: usize,
     },
-    /// An unassigned host code or bit.
+    /// An unassigned host code or bit, or a level of the radio above 4,095.
     Reserved {
-        /// The first that is set.
+        /// The first such.
         cause: Cause,
     },
     /// A value that does not fit.
     Range,
 }
 
-/// The unassigned host codes and bits, in the order in which they are tested.
+/// The unassigned host codes and bits, and then the radio's levels, which are twelve bits (T-08):
+/// each in the order in which they are tested.
 #[derive(Clone, Copy, Debug, PartialEq, Eq, PartialOrd, Ord)]
 pub enum Cause {
     /// Word 0's 10 MHz source of code 3.
@@ -44,6 +45,18 @@ pub enum Cause {
     Word9C4Bit7,
     /// Word 10's C1 bit 7.
     Word10C1Bit7,
+    /// Radio word 1's C1C2.
+    Ain5,
+    /// Radio word 1's C3C4.
+    Ain1,
+    /// Radio word 2's C1C2.
+    Ain2,
+    /// Radio word 2's C3C4.
+    Ain3,
+    /// Radio word 3's C1C2.
+    Ain4,
+    /// Radio word 3's C3C4.
+    Ain6,
 }
 
 impl Refusal {

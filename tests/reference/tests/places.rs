@@ -1,4 +1,4 @@
-//! The place that a refusal says, as request T-02 has it.
+//! The place that a refusal says, as request T-02 has it, and T-08 of a level.
 
 mod common;
 
@@ -115,9 +115,29 @@ fn sync_is_named_before_padding() {
     assert_eq!(read_radio(8, frame), Err(NoSync { byte: 1 }));
 }
 
+#[test]
+fn sync_and_padding_are_named_before_a_level() {
+    let wide = [0x08, 0xFF, 0xFF, 0xFF, 0xFF];
+    let no_sync = damaged(wide, &[2, 511], 0x80);
+    assert_eq!(read_radio(3, no_sync), Err(NoSync { byte: 2 }));
+    let padding = damaged(wide, &[511], 0x80);
+    assert_eq!(read_radio(3, padding), Err(Padding { byte: 511 }));
+    // Without padding, byte 511 is a microphone sample's.
+    let cause = Ain5;
+    assert_eq!(read_radio(2, padding), Err(Reserved { cause }));
+}
+
 /// Eight frames in which these two bytes are wrong.
 fn read_transfer(receivers: usize, wrong: [usize; 2]) -> Result<usize, Stopped> {
-    let mut input = frame([0; 5]).repeat(8);
+    read_transfer_of([0; 5], receivers, wrong)
+}
+
+fn read_transfer_of(
+    control: [u8; 5],
+    receivers: usize,
+    wrong: [usize; 2],
+) -> Result<usize, Stopped> {
+    let mut input = frame(control).repeat(8);
     wrong.into_iter().for_each(|byte| input[byte] = 0x80);
     let (mut iq, mut mic) = ([0; 8 * 160], [0; 8 * 63]);
     radio_read_transfer(&input, receivers, &mut iq, &mut mic, &mut Status::fresh())
@@ -138,6 +158,28 @@ fn a_place_in_each_frame_of_a_transfer() {
                 let refusal = Padding { byte };
                 let got = read_transfer(receivers, [start + byte, 7 * 512 + 511]);
                 assert_eq!(got, Err(Stopped { refusal, frames }));
+            }
+        }
+    }
+}
+
+/// C1 is byte 4 of a frame, and C3 byte 6.
+#[test]
+fn a_level_in_each_frame_of_a_transfer() {
+    let words = [
+        (0x08, [Ain5, Ain1]),
+        (0x10, [Ain2, Ain3]),
+        (0x18, [Ain4, Ain6]),
+    ];
+    for (c0, causes) in words {
+        for (byte, cause) in [4, 6].into_iter().zip(causes) {
+            for frames in 0..8 {
+                for receivers in 1..=8 {
+                    let wrong = [512 * frames + byte, 7 * 512 + byte];
+                    let got = read_transfer_of([c0, 0, 0, 0, 0], receivers, wrong);
+                    let refusal = Reserved { cause };
+                    assert_eq!(got, Err(Stopped { refusal, frames }));
+                }
             }
         }
     }

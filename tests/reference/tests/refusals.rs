@@ -19,10 +19,14 @@ struct RadioCall {
 
 /// A call with slices of just the needed length; three receivers have padding.
 fn good_radio_call() -> RadioCall {
+    radio_call_of([0x27, 0xFF, 0xFF, 0xFF, 0xFF])
+}
+
+fn radio_call_of(control: [u8; 5]) -> RadioCall {
     RadioCall {
         receivers: 3,
         word: 4,
-        frame: frame([0x27, 0xFF, 0xFF, 0xFF, 0xFF]).to_vec(),
+        frame: frame(control).to_vec(),
         iq: vec![77; 150],
         mic: vec![77; 25],
         status: Status::fresh(),
@@ -50,6 +54,32 @@ fn run_radio_write(call: &mut RadioCall) -> Option<Refusal> {
     radio_write(status, call.word, call.receivers, iq, mic, &mut call.frame).err()
 }
 
+/// Words 1 to 3 with each level at its most and all three keys set, and what is
+/// wrong with either level.
+const LEVELS: [([u8; 5], [Fault<RadioCall>; 2]); 3] = [
+    (
+        [0x0F, 0x0F, 0xFF, 0x0F, 0xFF],
+        [
+            (Reserved { cause: Ain5 }, |c| c.frame[4] = 0x10),
+            (Reserved { cause: Ain1 }, |c| c.frame[6] = 0x80),
+        ],
+    ),
+    (
+        [0x17, 0x0F, 0xFF, 0x0F, 0xFF],
+        [
+            (Reserved { cause: Ain2 }, |c| c.frame[4] = 0x20),
+            (Reserved { cause: Ain3 }, |c| c.frame[6] = 0x10),
+        ],
+    ),
+    (
+        [0x1F, 0x0F, 0xFF, 0x0F, 0xFF],
+        [
+            (Reserved { cause: Ain4 }, |c| c.frame[4] = 0xFF),
+            (Reserved { cause: Ain6 }, |c| c.frame[6] = 0x40),
+        ],
+    ),
+];
+
 #[test]
 fn radio_read_refuses_in_order() {
     let faults: [Fault<RadioCall>; 13] = [
@@ -68,14 +98,17 @@ fn radio_read_refuses_in_order() {
         (BadCount, |c| c.receivers = 9),
     ];
     check_every_set(&good_radio_call(), run_radio_read, &faults);
+    for (control, levels) in LEVELS {
+        let faults = [&levels[..], &faults].concat();
+        check_every_set(&radio_call_of(control), run_radio_read, &faults);
+    }
 }
 
 /// Two frames, and slices of just the needed length. What is wrong with a
 /// frame is wrong with the first.
 #[test]
 fn a_transfer_refuses_in_order() {
-    let one = good_radio_call();
-    let good = RadioCall {
+    let good = |one: RadioCall| RadioCall {
         frame: one.frame.repeat(2),
         iq: one.iq.repeat(2),
         mic: one.mic.repeat(2),
@@ -97,12 +130,17 @@ fn a_transfer_refuses_in_order() {
         (BadCount, |c| c.receivers = 0),
         (BadCount, |c| c.receivers = 9),
     ];
-    check_every_set(&good, run_transfer, &faults);
+    check_every_set(&good(good_radio_call()), run_transfer, &faults);
+    let (control, levels) = LEVELS[1];
+    let faults = [&levels[..], &faults].concat();
+    check_every_set(&good(radio_call_of(control)), run_transfer, &faults);
 }
 
 #[test]
 fn radio_write_refuses_in_order() {
-    let faults: [Fault<RadioCall>; 12] = [
+    let faults: [Fault<RadioCall>; 14] = [
+        (Range, |c| c.status.ain5 = 4_096),
+        (Range, |c| c.status.ain6 = 65_535),
         (Range, |c| c.iq[0] = 8_388_608),
         (Range, |c| c.iq[149] = -8_388_609),
         (Range, |c| c.status.versions[0] = 128),
@@ -157,7 +195,10 @@ fn samples_past_the_needed_are_not_tested() {
 fn samples_at_the_limits_are_accepted() {
     let mut call = good_radio_call();
     (call.iq[0], call.iq[149]) = (8_388_607, -8_388_608);
-    call.status.versions = [127; 4];
+    call.status = Status {
+        versions: [127; 4],
+        ..status_of([4_095; 6])
+    };
     assert_eq!(run_radio_write(&mut call), None);
     assert_eq!(call.frame[8..11], [0x7F, 0xFF, 0xFF]);
     assert_eq!(call.frame[503..506], [0x80, 0, 0]);

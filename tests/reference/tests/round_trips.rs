@@ -5,9 +5,15 @@ mod common;
 use common::*;
 use reference::*;
 
+fn noisy_level(noise: &mut Noise) -> u16 {
+    match noise.below(8) {
+        0 => 4_095,
+        _ => noise.below(4_096) as u16,
+    }
+}
+
 fn noisy_status(noise: &mut Noise) -> Status {
-    let mut level = || noise.word() as u16;
-    let [ain5, ain1, ain2, ain3, ain4, ain6] = std::array::from_fn(|_| level());
+    let levels = std::array::from_fn(|_| noisy_level(noise));
     Status {
         dot: noise.flag(),
         dash: noise.flag(),
@@ -19,13 +25,8 @@ fn noisy_status(noise: &mut Noise) -> Status {
         mercury: noise.byte(),
         penelope: noise.byte(),
         main: noise.byte(),
-        ain5,
-        ain1,
-        ain2,
-        ain3,
-        ain4,
-        ain6,
         versions: std::array::from_fn(|_| noise.byte() >> 1),
+        ..status_of(levels)
     }
 }
 
@@ -70,7 +71,11 @@ fn radio_frames_read_and_written() {
             let mut frame = noise.bytes(512);
             frame[..3].copy_from_slice(&SYNC);
             frame[3] = word << 3 | frame[3] & 7;
-            frame[4] &= if word == 0 { 0x7F } else { 0xFF };
+            match word {
+                0 => frame[4] &= 0x7F,
+                1..=3 => (frame[4], frame[6]) = (frame[4] & 0x0F, frame[6] & 0x0F),
+                _ => {}
+            }
             frame[512 - padding..].fill(0);
             let (mut iq, mut mic) = ([0; 200], [0; 100]);
             let mut status = noisy_status(&mut noise);

@@ -68,12 +68,21 @@ fn every_number_of_frames() {
 
 #[test]
 fn stops_at_every_frame() {
-    for frames in 0..8 {
-        let mut call = eight_frames();
-        call.input[512 * frames + 1] = 0;
-        let refusal = Refusal::NoSync { byte: 1 };
-        assert_eq!(call.run(), Err(Stopped { refusal, frames }));
-        call.check(frames);
+    let (cause, other) = (Cause::Ain5, Cause::Ain1);
+    let faults = [
+        (1, 0x00, Refusal::NoSync { byte: 1 }),
+        (4, 0x10, Refusal::Reserved { cause }),
+        (6, 0x80, Refusal::Reserved { cause: other }),
+    ];
+    for (byte, value, refusal) in faults {
+        for frames in 0..8 {
+            let mut call = eight_frames();
+            call.input[512 * frames + byte] = value;
+            // The keys of a refused frame are not kept either.
+            call.input[512 * frames + 3] |= 7;
+            assert_eq!(call.run(), Err(Stopped { refusal, frames }));
+            call.check(frames);
+        }
     }
 }
 

@@ -36,12 +36,12 @@ const RADIO_CASES: [RadioCase; 24] = [
     ([0, 0, 0x81, 0, 0], |s| s.mercury = 0x81),
     ([0, 0, 0, 0x82, 0], |s| s.penelope = 0x82),
     ([0, 0, 0, 0, 0x83], |s| s.main = 0x83),
-    ([0x08, 0x12, 0x34, 0, 0], |s| s.ain5 = 0x1234),
-    ([0x08, 0, 0, 0x12, 0x34], |s| s.ain1 = 0x1234),
-    ([0x10, 0xFE, 0xDC, 0, 0], |s| s.ain2 = 0xFEDC),
-    ([0x10, 0, 0, 0xFE, 0xDC], |s| s.ain3 = 0xFEDC),
-    ([0x18, 0x12, 0x34, 0, 0], |s| s.ain4 = 0x1234),
-    ([0x18, 0, 0, 0x12, 0x34], |s| s.ain6 = 0x1234),
+    ([0x08, 0x02, 0x34, 0, 0], |s| s.ain5 = 564),
+    ([0x08, 0, 0, 0x02, 0x34], |s| s.ain1 = 564),
+    ([0x10, 0x0F, 0xFF, 0, 0], |s| s.ain2 = 4_095),
+    ([0x10, 0, 0, 0x0F, 0xFF], |s| s.ain3 = 4_095),
+    ([0x18, 0x08, 0x01, 0, 0], |s| s.ain4 = 2_049),
+    ([0x18, 0, 0, 0x08, 0x01], |s| s.ain6 = 2_049),
     ([0x20, 0x01, 0, 0, 0], |s| s.overflow[0] = true),
     ([0x20, 0xFE, 0, 0, 0], |s| s.versions[0] = 127),
     ([0x20, 0, 0x03, 0, 0], |s| {
@@ -83,10 +83,15 @@ fn unlisted_radio_words_set_the_keys_only() {
 fn all_zero_words_give_a_fresh_status() {
     let mut status = Status::fresh();
     for address in 0..=4 {
-        let ones = [address << 3 | 7, 0xFF, 0xFF, 0xFF, 0xFF];
+        // A level has twelve ones.
+        let high = match address {
+            1..=3 => 0x0F,
+            _ => 0xFF,
+        };
+        let ones = [address << 3 | 7, high, 0xFF, high, 0xFF];
         read_radio_into(&mut status, &frame(ones)).unwrap();
     }
-    assert_eq!((status.ain6, status.versions), (0xFFFF, [127; 4]));
+    assert_eq!((levels(&status), status.versions), ([4_095; 6], [127; 4]));
     for address in 0..=4 {
         read_radio_into(&mut status, &frame([address << 3, 0, 0, 0, 0])).unwrap();
     }

@@ -38,6 +38,25 @@ pub fn radio_word(control: [u8; 5]) -> (Status, u8) {
     (status, address)
 }
 
+/// The six levels, in the order of the words that carry them.
+pub fn levels(s: &Status) -> [u16; 6] {
+    [s.ain5, s.ain1, s.ain2, s.ain3, s.ain4, s.ain6]
+}
+
+/// A fresh status with these levels.
+pub fn status_of(levels: [u16; 6]) -> Status {
+    let [ain5, ain1, ain2, ain3, ain4, ain6] = levels;
+    Status {
+        ain5,
+        ain1,
+        ain2,
+        ain3,
+        ain4,
+        ain6,
+        ..Status::fresh()
+    }
+}
+
 /// Reads a host frame into `host`; gives the answer.
 pub fn read_host_into(host: &mut Host, frame: &[u8]) -> Result<u8, Refusal> {
     host_read(frame, &mut [0; 252], host)
