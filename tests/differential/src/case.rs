@@ -35,6 +35,13 @@ pub struct Part<C> {
     pub holds: fn(&C) -> bool,
 }
 
+impl<C> Part<C> {
+    pub const fn of(name: &'static str, answers: &'static [u8], holds: fn(&C) -> bool) -> Part<C> {
+        let line = Call { name, answers };
+        Part { line, holds }
+    }
+}
+
 pub trait Case: Sized + 'static {
     const CALL: Call;
     const TWISTS: &'static [Twist<Self>];

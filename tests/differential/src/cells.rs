@@ -23,6 +23,8 @@ pub const STATUS_MOST: [u32; 26] = [
     LEVEL, LEVEL, LEVEL, LEVEL, LEVEL, LEVEL, // ain5, ain1, ain2, ain3, ain4, ain6
     BYTE, BYTE, BYTE, BYTE,                   // board1 to board4
 ];
+/// Cell of the first level, AIN5.
+pub const LEVELS: usize = 16;
 /// Cell of the first board's version.
 pub const VERSIONS: usize = 22;
 

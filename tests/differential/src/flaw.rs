@@ -1,6 +1,7 @@
 //! What is wrong with a frame whose refusal says a place. Besides the reference's word on every call,
-//! request T-02 is stated directly, of what was put in.
+//! requests T-02 and T-08 are stated directly, of what was put in.
 
+use crate::levels;
 use crate::model::Parts;
 use crate::radio::padding_bytes;
 use crate::twist::{FRAME, SYNC};
@@ -11,6 +12,7 @@ const NO_SYNC: u32 = 6;
 const PADDING: u32 = 7;
 const RESERVED: u32 = 8;
 
+/// The causes of a frame from the host. Those of a frame from the radio, its levels, go on after them.
 const CAUSES: [&str; 4] = [
     "10 MHz source",
     "transmit relay",
@@ -30,6 +32,8 @@ pub enum Flaw {
     },
     /// The set of causes, from bit 0 on.
     Reserved(u8),
+    /// The set of levels above 4,095, and the one bit that the first has above its twelve, if there is one alone.
+    Levels { set: u8, alone: Option<u32> },
 }
 
 fn members(set: u8) -> impl Iterator<Item = usize> {
@@ -53,6 +57,16 @@ fn of_padding(frame: &[u8], receivers: usize) -> Option<Flaw> {
     })
 }
 
+fn of_levels(frame: &[u8]) -> Option<Flaw> {
+    let above = levels::above(frame);
+    let (_, first) = above.first()?;
+    let bit = first.ilog2();
+    Some(Flaw::Levels {
+        set: above.iter().fold(0, |set, (level, _)| set | 1 << level),
+        alone: (first - (1 << bit) <= levels::MOST).then_some(bit),
+    })
+}
+
 fn of_word(frame: &[u8]) -> Option<Flaw> {
     let (c1, c4) = (frame[4], frame[7]);
     let set = match frame[3] >> 1 {
@@ -67,7 +81,9 @@ fn of_word(frame: &[u8]) -> Option<Flaw> {
 impl Flaw {
     /// Of a whole frame from the radio.
     pub fn of_radio(frame: &[u8], receivers: usize) -> Option<Flaw> {
-        of_sync(frame).or_else(|| of_padding(frame, receivers))
+        of_sync(frame)
+            .or_else(|| of_padding(frame, receivers))
+            .or_else(|| of_levels(frame))
     }
 
     /// Of a whole frame from the host.
@@ -101,8 +117,20 @@ impl Flaw {
             .map(Flaw::Reserved)
     }
 
+    /// Each level by itself and the two of each word, by each bit alone and by more.
+    fn every_level() -> impl Iterator<Item = Flaw> {
+        let alone = [Some(12), Some(13), Some(14), Some(15), None];
+        let sets = [0, 2, 4]
+            .into_iter()
+            .flat_map(|first| [1, 2, 3].map(|set| set << first));
+        sets.flat_map(move |set| alone.map(|alone| Flaw::Levels { set, alone }))
+    }
+
     pub fn every_of_radio() -> Vec<Flaw> {
-        Flaw::every_sync().chain(Flaw::every_padding()).collect()
+        Flaw::every_sync()
+            .chain(Flaw::every_padding())
+            .chain(Flaw::every_level())
+            .collect()
     }
 
     pub fn every_of_host() -> Vec<Flaw> {
@@ -115,6 +143,7 @@ impl Flaw {
             Flaw::Sync(set) => (NO_SYNC, set.trailing_zeros()),
             Flaw::Padding { byte, .. } => (PADDING, byte as u32),
             Flaw::Reserved(set) => (RESERVED, 1 + set.trailing_zeros()),
+            Flaw::Levels { set, .. } => (RESERVED, 1 + CAUSES.len() as u32 + set.trailing_zeros()),
         }
     }
 
@@ -130,7 +159,7 @@ impl Flaw {
         }
     }
 
-    /// Its line of the table, which the padding bytes of a layout share.
+    /// Its line of the table, which the padding bytes of a layout share, and the bits of a level.
     pub fn line(&self) -> String {
         match *self {
             Flaw::Sync(set) => {
@@ -149,6 +178,10 @@ impl Flaw {
                 let causes: Vec<_> = members(set).map(|cause| CAUSES[cause]).collect();
                 causes.join(" and ")
             }
+            Flaw::Levels { set, .. } => {
+                let names: Vec<_> = members(set).map(|level| levels::NAMES[level]).collect();
+                format!("{} above 4,095", names.join(" and "))
+            }
         }
     }
 }
@@ -158,6 +191,10 @@ impl fmt::Display for Flaw {
         write!(f, "{}", self.line())?;
         match self {
             Flaw::Padding { byte, .. } => write!(f, ", the first {byte}"),
+            Flaw::Levels {
+                alone: Some(bit), ..
+            } => write!(f, ", bit {bit} alone of the first"),
+            Flaw::Levels { alone: None, .. } => write!(f, ", more bits of the first"),
             _ => Ok(()),
         }
     }

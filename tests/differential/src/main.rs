@@ -4,6 +4,7 @@
 mod case;
 mod flaw;
 mod host;
+mod levels;
 mod options;
 mod plain;
 mod radio;

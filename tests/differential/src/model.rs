@@ -55,6 +55,12 @@ fn place(refusal: Refusal) -> u32 {
             Cause::Relay => 2,
             Cause::Word9C4Bit7 => 3,
             Cause::Word10C1Bit7 => 4,
+            Cause::Ain5 => 5,
+            Cause::Ain1 => 6,
+            Cause::Ain2 => 7,
+            Cause::Ain3 => 8,
+            Cause::Ain4 => 9,
+            Cause::Ain6 => 10,
         },
         _ => 0,
     }

@@ -5,11 +5,14 @@ use crate::case::{outcome, Call, Case, Draw, Outcome, Part, Twist};
 use crate::cells::{self, STATUS_MOST};
 use crate::flaw::Flaw;
 use crate::lent::Guards;
-use crate::radio::{damage_padding, frame, other_padding_byte, padding_bytes, samples, slots};
+use crate::levels;
+use crate::radio::{
+    damage_padding, frame, other_padding_byte, padding_bytes, samples, slots, status,
+};
 use crate::random::Number;
 use crate::twist::{
-    cell_count, cell_value, damage, damage_sync, resize, slice_length, valid_cells, valid_numbers,
-    FRAME, STRANGE_COUNTS,
+    cell_count, cell_value, damage, damage_sync, resize, slice_length, valid_numbers, FRAME,
+    STRANGE_COUNTS,
 };
 use reference::row;
 
@@ -31,7 +34,7 @@ impl Transfer {
             receivers,
             iq: valid_numbers(frames * samples(receivers), draw),
             mic: valid_numbers(frames * slots(receivers), draw),
-            status: valid_cells(&STATUS_MOST, draw),
+            status: status(draw),
         }
     }
 
@@ -79,6 +82,17 @@ impl Transfer {
         damage_sync(self.any_frame(draw), draw);
     }
 
+    /// A level of one frame, and the sync, the padding or a level of another or of the same.
+    fn widen_and_damage(&mut self, draw: &mut Draw) {
+        match draw.random.below(3) {
+            0 => damage_sync(self.any_frame(draw), draw),
+            1 => self.damage_padding(draw),
+            _ => levels::widen(self.any_frame(draw), draw),
+        }
+        draw.turn = draw.random.below(levels::ROUND);
+        levels::widen(self.any_frame(draw), draw);
+    }
+
     /// Each multiple of a frame up to nine, one byte less, and one more.
     fn input_length(&mut self, draw: &mut Draw) {
         let (frames, more) = (draw.turn % 10, draw.turn / 10 % 3);
@@ -110,6 +124,20 @@ impl Transfer {
         self.each_flaw().map(before) == Some(count)
     }
 
+    /// Whether a level of the refused frame is above 4,095, and it is refused for such a flaw before that.
+    fn hides_a_level(&self, by: fn(Flaw) -> bool) -> bool {
+        let flaws = self.each_flaw().unwrap_or_default();
+        let mut frames = self.input.chunks(FRAME).zip(flaws);
+        let refused = frames.find_map(|(frame, flaw)| flaw.map(|flaw| (frame, flaw)));
+        refused.is_some_and(|(frame, flaw)| by(flaw) && !levels::above(frame).is_empty())
+    }
+
+    /// Whether every frame reads, into a record with a level above 4,095.
+    fn finds_a_stray(&self) -> bool {
+        let reads = |flaws: Vec<Option<Flaw>>| flaws.iter().all(Option::is_none);
+        self.each_flaw().is_some_and(reads) && !levels::strays(&self.status).is_empty()
+    }
+
     /// Whether just two frames do not read, both for such a flaw.
     fn two_do_not_read(&self, such: fn(Flaw) -> bool) -> bool {
         let flaws: Vec<Flaw> = self.each_flaw().into_iter().flatten().flatten().collect();
@@ -135,13 +163,15 @@ const fn reads_just<const COUNT: usize>(
 impl Case for Transfer {
     const CALL: Call = Call {
         name: "hpsdr_radio_read_transfer",
-        answers: &[0, 1, 2, 3, 4, 6, 7],
+        answers: &[0, 1, 2, 3, 4, 6, 7, 8],
     };
     const TWISTS: &'static [Twist<Self>] = &[
         Transfer::damage_padding,
         Transfer::damage_padding_twice,
         Transfer::damage_two,
         Transfer::damage_two_syncs,
+        |case, draw| levels::widen(case.any_frame(draw), draw),
+        Transfer::widen_and_damage,
         Transfer::input_length,
         |case, draw| damage(case.any_frame(draw), draw),
         |case, draw| damage_sync(case.any_frame(draw), draw),
@@ -166,19 +196,19 @@ impl Case for Transfer {
         |case, draw| cell_count(&mut case.status, STATUS_MOST.len(), draw),
     ];
     const PARTS: &'static [Part<Self>] = &[
-        reads_just::<0>("- 0 frames read", &[6, 7]),
-        reads_just::<1>("- 1 frame read", &[0, 6, 7]),
-        reads_just::<2>("- 2 frames read", &[0, 6, 7]),
-        reads_just::<3>("- 3 frames read", &[0, 6, 7]),
-        reads_just::<4>("- 4 frames read", &[0, 6, 7]),
-        reads_just::<5>("- 5 frames read", &[0, 6, 7]),
-        reads_just::<6>("- 6 frames read", &[0, 6, 7]),
-        reads_just::<7>("- 7 frames read", &[0, 6, 7]),
+        reads_just::<0>("- 0 frames read", &[6, 7, 8]),
+        reads_just::<1>("- 1 frame read", &[0, 6, 7, 8]),
+        reads_just::<2>("- 2 frames read", &[0, 6, 7, 8]),
+        reads_just::<3>("- 3 frames read", &[0, 6, 7, 8]),
+        reads_just::<4>("- 4 frames read", &[0, 6, 7, 8]),
+        reads_just::<5>("- 5 frames read", &[0, 6, 7, 8]),
+        reads_just::<6>("- 6 frames read", &[0, 6, 7, 8]),
+        reads_just::<7>("- 7 frames read", &[0, 6, 7, 8]),
         reads_just::<8>("- 8 frames read", &[0]),
         Part {
             line: Call {
                 name: "- two frames do not read",
-                answers: &[6, 7],
+                answers: &[6, 7, 8],
             },
             holds: |case| case.two_do_not_read(|_| true),
         },
@@ -196,6 +226,16 @@ impl Case for Transfer {
             },
             holds: |case| case.two_do_not_read(|flaw| matches!(flaw, Flaw::Padding { .. })),
         },
+        Part::of("- two frames' levels", &[8], |case| {
+            case.two_do_not_read(|flaw| matches!(flaw, Flaw::Levels { .. }))
+        }),
+        Part::of("- its level, and no sync", &[6], |case| {
+            case.hides_a_level(|flaw| matches!(flaw, Flaw::Sync(_)))
+        }),
+        Part::of("- its level, and padding", &[7], |case| {
+            case.hides_a_level(|flaw| matches!(flaw, Flaw::Padding { .. }))
+        }),
+        Part::of("- all read, a stray level", &[0], Transfer::finds_a_stray),
     ];
 
     /// Half of them have eight frames.
@@ -213,7 +253,9 @@ impl Case for Transfer {
         let mut status = guards.lend("status", &self.status);
         let both =
             both::radio_read_transfer(&mut input, self.receivers, &mut iq, &mut mic, &mut status);
-        outcome(both, &[&input, &iq, &mic, &status])
+        let returned = outcome(both, &[&input, &iq, &mic, &status])?;
+        levels::check_read(&self.status, status.left())?;
+        Ok(returned)
     }
 
     fn flaw(&self) -> Option<Flaw> {
