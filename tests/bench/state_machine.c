@@ -10,6 +10,7 @@
 #define HEADER 8
 #define PAYLOAD (HPSDR_FRAME - HEADER)
 #define WINDOW (HPSDR_FRAME + 3)
+#define LEVEL_MOST 4095
 #define TOTAL_MOST ((uint64_t)1 << 48)
 
 static const uint32_t status_most[HPSDR_STATUS_CELLS] = {
@@ -73,6 +74,17 @@ static void take_boards(struct hpsdr_status *status, const uint8_t *control)
     status->board2 = control[2] >> 1;
     status->board3 = control[3] >> 1;
     status->board4 = control[4] >> 1;
+}
+
+/* Levels are twelve bits. */
+static bool has_wide_level(const uint8_t *control)
+{
+    switch (control[0] >> 3) {
+    case 1: case 2: case 3:
+        return two_bytes(control + 1) > LEVEL_MOST || two_bytes(control + 3) > LEVEL_MOST;
+    default:
+        return false;
+    }
 }
 
 static uint32_t take_radio_word(struct hpsdr_status *status, const uint8_t *control)
@@ -179,6 +191,8 @@ uint32_t machine_radio_read(const uint8_t *frame, size_t frame_length, size_t re
     for (size_t i = HEADER + slots * slot; i < HPSDR_FRAME; i++)
         if (frame[i] != 0)
             return HPSDR_PADDING;
+    if (has_wide_level(frame + 3))
+        return HPSDR_RESERVED;
     struct radio_machine machine = {.state = RADIO_SYNC, .slots = slots};
     for (size_t i = 0; i < HPSDR_FRAME; i++)
         if (!radio_step(&machine, frame[i], samples, &iq, &mic))

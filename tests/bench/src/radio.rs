@@ -46,13 +46,25 @@ fn fresh_cells() -> [u32; 26] {
     cells
 }
 
+/// A record whose levels differ, and are accepted: the greatest is 4,095.
+fn told() -> Status {
+    Status {
+        ain5: 4_095,
+        ain1: 4_091,
+        ain2: 4_092,
+        ain3: 4_093,
+        ain4: 4_094,
+        ain6: 1_006,
+        ..Status::fresh()
+    }
+}
+
 fn frames(receivers: usize) -> Vec<Frame> {
     let written = |samples: Samples| {
         let Samples { word, iq, mic } = samples;
         let mut frame = [0; 512];
-        let answer =
-            reference::radio_write(&Status::fresh(), word, receivers, &iq, &mic, &mut frame);
-        answer.expect("the samples fit");
+        let answer = reference::radio_write(&told(), word, receivers, &iq, &mic, &mut frame);
+        answer.expect("the samples and the record fit");
         frame
     };
     samples(receivers).into_iter().map(written).collect()
