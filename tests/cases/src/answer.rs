@@ -4,6 +4,7 @@
 //!     answer 0 word 1                 what the call finds, by its name
 //!     answer 7 word 0 byte 509        refusals 6 and 7: the place, a byte of the frame
 //!     answer 8 address 0 cause relay  refusal 8: the cause, by its name
+//!     answer 8 word 0 cause ain5      of a frame from the radio: the level
 //!
 //! The three refusals must say it, and no other answer may.
 
@@ -14,7 +15,11 @@ use differential::model::Parts;
 const REFUSALS: u32 = 9;
 const FOUND_MOST: u32 = 0xFF;
 /// The causes of refusal 8, from 1 on.
-const CAUSES: [&str; 4] = ["source10", "relay", "word9_c4_bit7", "word10_c1_bit7"];
+#[rustfmt::skip]
+const CAUSES: [&str; 10] = [
+    "source10", "relay", "word9_c4_bit7", "word10_c1_bit7",
+    "ain5", "ain1", "ain2", "ain3", "ain4", "ain6",
+];
 
 /// What an answer says of where the frame is wrong.
 enum Place {
