@@ -124,6 +124,47 @@ mistake_below 1 host_build.cases 'frame silent at 256 = 01 02 03 04 07 08 05 06'
 mistake_below 1 host_build.cases 'audio 252 of 0 at 124 = 258 772 1286 1800' 'audio 252 of 0 at 124 = 772 258 1286 1800' \
     'host_read four numbers, middle slot: audio[124]: expected 772; door 258; reference 258'
 
+# Levels, which are twelve bits (T-08). A refused one is claimed to be read, whole or cut to its low bits, and one of 4095
+# or of a word without levels to be refused; the second level of a word is named, the other of its two, a level before the
+# padding, and a later frame's; the index beside it is another; a refused frame's DOT is kept. A level that the record was
+# lent with is claimed to be refused or cut. One of 4096 is written, one of 4095 is not.
+mistake radio_read.cases 'control 08 9C 40 00 00 | answer 8 word 0 cause ain5' 'control 08 9C 40 00 00 | answer 0 word 1' \
+    'radio_read forward power 40000, AIN5: expected answer 0 word 1; door answer 8 word 0 cause ain5; reference answer 8'
+mistake radio_read.cases 'AIN6 10 00 | frame control 18 00 00 10 00 | answer 8 word 0 cause ain6' \
+    'AIN6 10 00 | frame control 18 00 00 10 00 | answer 0 word 3 | status ain6 0' \
+    'status ain6: expected 0; door 1006; reference 1006'
+mistake radio_read.cases 'frame control 10 00 00 0F FF | answer 0 word 2' \
+    'frame control 10 00 00 0F FF | answer 8 word 0 cause ain3' \
+    'expected answer 8 word 0 cause ain3; door answer 0 word 2; reference answer 0 word 2'
+mistake radio_read.cases 'control 88 FF FF FF FF | answer 0 word 17' 'control 88 FF FF FF FF | answer 8 word 0 cause ain5' \
+    'expected answer 8 word 0 cause ain5; door answer 0 word 17; reference answer 0 word 17'
+mistake radio_read.cases 'control 08 FF FF FF FF | answer 8 word 0 cause ain5' \
+    'control 08 FF FF FF FF | answer 8 word 0 cause ain1' \
+    'expected answer 8 word 0 cause ain1; door answer 8 word 0 cause ain5; reference answer 8 word 0 cause ain5'
+mistake radio_read.cases 'control 18 0F FF 10 00 | answer 8 word 0 cause ain6' \
+    'control 18 0F FF 10 00 | answer 8 word 0 cause ain4' \
+    'expected answer 8 word 0 cause ain4; door answer 8 word 0 cause ain6; reference answer 8 word 0 cause ain6'
+mistake radio_read.cases 'control 10 FF FF FF FF at 488 = 01 | answer 7 word 0 byte 488' \
+    'control 10 FF FF FF FF at 488 = 01 | answer 8 word 0 cause ain2' \
+    'expected answer 8 word 0 cause ain2; door answer 7 word 0 byte 488; reference answer 7 word 0 byte 488'
+mistake radio_transfer.cases 'input at 518 = 10 00 at 1540 = FF FF | answer 8 frames 1 cause ain1' \
+    'input at 518 = 10 00 at 1540 = FF FF | answer 8 frames 1 cause ain4' \
+    'expected answer 8 frames 1 cause ain4; door answer 8 frames 1 cause ain1; reference answer 8 frames 1 cause ain1'
+mistake radio_transfer.cases 'input at 518 = 12 34 | answer 8 frames 1 cause ain1' \
+    'input at 518 = 12 34 | answer 8 frames 0 cause ain1' \
+    'expected answer 8 frames 0 cause ain1; door answer 8 frames 1 cause ain1; reference answer 8 frames 1 cause ain1'
+mistake radio_read.cases 'control 0C 10 00 00 00 | answer 8 word 0 cause ain5' \
+    'control 0C 10 00 00 00 | answer 8 word 0 cause ain5 | status dot 1' 'status dot: expected 1; door 0; reference 0'
+mistake radio_read.cases 'ain6 65535 | frame control 10 01 F4 02 03 | answer 0 word 2' \
+    'ain6 65535 | frame control 10 01 F4 02 03 | answer 8 word 0 cause ain6' \
+    'expected answer 8 word 0 cause ain6; door answer 0 word 2; reference answer 0 word 2'
+mistake_below 1 radio_read.cases 'status silent ain1 65535 ain4 500' 'status silent ain1 4095 ain4 500' \
+    'status ain1: expected 4095; door 65535; reference 65535'
+mistake radio_write.cases 'status ain6 4096 | word 0 | answer 9' 'status ain6 4096 | word 0 | answer 0' \
+    'radio_write AIN6 4096, word 0: expected answer 0; door answer 9; reference answer 9'
+mistake radio_write.cases 'status ain2 4095 | word 2 | answer 0' 'status ain2 4095 | word 2 | answer 9' \
+    'expected answer 9; door answer 0; reference answer 0'
+
 # A cell that is claimed to be as it was: in a record, past what a call writes, in a lent frame; and one that
 # is claimed to have changed after a refusal, or to be as it was after one that comes behind frames that were read.
 mistake radio_read.cases '| answer 0 word 1 | status dot 1' '| answer 0 word 1' \
@@ -155,6 +196,11 @@ mistake host_read.cases 'control 12 00 00 00 80 | answer 8 address 0 cause word9
 mistake host_read.cases 'control 00 00 00 00 17 | answer 8 address 0 cause relay' \
     'control 00 00 00 00 17 | answer 8 address 0 cause rely' "unknown word 'rely'"
 
+mistake radio_read.cases 'control 08 00 00 9C 40 | answer 8 word 0 cause ain1' \
+    'control 08 00 00 9C 40 | answer 8 word 0 cause ain7' "unknown word 'ain7'"
+mistake radio_read.cases 'control 10 0F FF 10 00 | answer 8 word 0 cause ain3' \
+    'control 10 0F FF 10 00 | answer 8 word 0 byte 6' "unknown word 'byte'"
+
 # A place beside an answer that says none: an accepted call, a refusal of another kind, and one of the whole transfer.
 mistake radio_read.cases 'answer 0 word 31 | status dot 1 ptt 1' 'answer 0 word 31 byte 0 | status dot 1 ptt 1' \
     "unknown word 'byte'"
@@ -163,6 +209,10 @@ mistake radio_read.cases 'frame length 513 | answer 3 word 0' 'frame length 513 
 mistake radio_transfer.cases 'mic length 503 | input at 3584 = 7E | answer 4 frames 0' \
     'mic length 503 | input at 3584 = 7E | answer 4 frames 0 byte 0' "unknown word 'byte'"
 mistake host_build.cases 'builder turn 255 | answer 1' 'builder turn 255 | answer 1 cause source10' "unknown word 'cause'"
+mistake radio_read.cases 'control 08 01 F4 04 56 | answer 0 word 1' 'control 08 01 F4 04 56 | answer 0 word 1 cause ain1' \
+    "unknown word 'cause'"
+mistake radio_write.cases 'status ain3 4096 | word 2 | answer 9' 'status ain3 4096 | word 2 | answer 9 cause ain3' \
+    "unknown word 'cause'"
 
 # What is missing: an answer, what is found, a place, a cause, an argument, a field of a record, a title, a part of a
 # description.
@@ -176,6 +226,10 @@ mistake radio_transfer.cases 'input at 1004 = 01 | answer 7 frames 1 byte 492' '
     'byte is missing'
 mistake host_read.cases 'control 14 80 00 00 00 | answer 8 address 0 cause word10_c1_bit7' \
     'control 14 80 00 00 00 | answer 8 address 0' 'cause is missing'
+mistake radio_read.cases 'control 18 FF FF 00 00 | answer 8 word 0 cause ain4' \
+    'control 18 FF FF 00 00 | answer 8 word 0' 'cause is missing'
+mistake radio_transfer.cases 'input at 3588 = 10 00 | answer 8 frames 7 cause ain5' \
+    'input at 3588 = 10 00 | answer 8 frames 7' 'cause is missing'
 mistake_below -2 layout.cases 'usual layout | row 4 of 77' 'usual layout' 'row is missing'
 mistake fresh.cases '| builder marked turn 7 | answer 0' '| builder marked | answer 0' 'builder turn is missing'
 mistake layout.cases 'layout of 2 |' 'layout |' "the case's title is missing"
@@ -207,6 +261,12 @@ must_fail host_build.cases "$(line_of host_build.cases '^build the numbers')" \
     'frame[12]: expected FF; door 00; reference 00'
 must_fail host_build.cases "$(line_of host_build.cases '^host_read the numbers back')" \
     'audio[2]: expected -1; door 3; reference 3'
+
+# A level of 4096 in the record that is written.
+cp "$data"/radio_write.cases "$room"
+awk '{ sub(/ain4 4094/, "ain4 4096") } { print }' "$data/radio.parts" >"$room/radio.parts"
+must_fail radio_write.cases "$(line_of radio_write.cases '^radio_write chosen, word 0')" \
+    'expected answer 0; door answer 9; reference answer 9'
 
 # Mistakes in a file of parts are reported there.
 copy_with fresh.cases 'over a full record' 'over a record'
