@@ -12,7 +12,7 @@ use Rattle.wire.specs.declared.Cause.{Cause}
 use Rattle.wire.specs.declared.Cause.the-variants.{Ain5, Ain1, Ain2, Ain3, Ain4, Ain6}
 use Rattle.wire.proofs.Cases.{by-test}
 use Rattle.wire.proofs.First.{accepts-only}
-use Rattle.radio_status.specs.Control.{Leveled}
+use Rattle.radio_status.specs.Control.{Leveled, LeveledWord}
 use Rattle.radio_status.specs.Levels.{level, topBits, topSet, levelOf, bothOr, levelTests}
 use Rattle.radio_status.specs.Words.{wordAt, keyed, carried, applied}
 use Rattle.radio_status.specs.declared.levels.Level.{Level}
@@ -21,6 +21,7 @@ use Rattle.radio_status.specs.declared.levels.TwoLevels.{TwoLevels}
 use Rattle.radio_status.specs.declared.levels.Levels.{Levels}
 use Rattle.radio_status.specs.declared.record.Status.{Status}
 use Rattle.radio_status.specs.declared.words.Word.{Word}
+use Rattle.radio_status.specs.declared.words.Word.the-variants.{Input, Forward, Reverse, Supply, Board, Unlisted}
 use Rattle.radio_status.proofs.Carries.{unlisted}
 use Rattle.radio_status.proofs.HeaderCases.{leveled, levels-fit}
 
@@ -85,21 +86,29 @@ module _ (answer : Answer) (two : TwoLevels) where
       (λ yes. absurd (true≢false (ap is-both (rw yes at is))))
       (λ isn't. let same = ap answer-in (rw isn't at is) in (same, sym (ap accepts same) ∙ isn't))
 
--- a word none of whose levels is refused puts none above 4,095 into a record
+-- a word without a level above 4,095 puts none into a record
+levels-carried : (w : Word) → LeveledWord w → (s : Status) → Leveled s → Leveled (carried w s)
+levels-carried (Input w) two s l = record { ain5 = l .ain5; ain1 = l .ain1; ain2 = l .ain2; ain3 = l .ain3; ain4 = l .ain4; ain6 = l .ain6 }
+levels-carried (Forward w) two s l = record { ain5 = two .0; ain1 = two .1; ain2 = l .ain2; ain3 = l .ain3; ain4 = l .ain4; ain6 = l .ain6 }
+levels-carried (Reverse w) two s l = record { ain5 = l .ain5; ain1 = l .ain1; ain2 = two .0; ain3 = two .1; ain4 = l .ain4; ain6 = l .ain6 }
+levels-carried (Supply w) two s l = record { ain5 = l .ain5; ain1 = l .ain1; ain2 = l .ain2; ain3 = l .ain3; ain4 = two .0; ain6 = two .1 }
+levels-carried (Board w) two s l = record { ain5 = l .ain5; ain1 = l .ain1; ain2 = l .ain2; ain3 = l .ain3; ain4 = l .ain4; ain6 = l .ain6 }
+levels-carried (Unlisted a) two s l = l
+
+-- a word none of whose levels is refused has none above 4,095
 module _ (c1 c2 c3 c4 : ℕ) (b1 : c1 < 256) (b2 : c2 < 256) (b3 : c3 < 256) (b4 : c4 < 256) where
   both-twelve : (a b : Cause) → firstOf (topSet c1) (topSet c3) a b ≡ Accepted → (level c1 c2 ≤ 4095) × (level c3 c4 ≤ 4095)
   both-twelve a b is = let clear = none-set (topSet c1) (topSet c3) a b is in (twelve-bits c1 c2 b1 b2 (clear .0), twelve-bits c3 c4 b3 b4 (clear .1))
 
-  levels-carried : (at : ℕ) → first (levelTests at c1 c3) ≡ Accepted → (s : Status) → Leveled s → Leveled (carried (wordAt at c1 c2 c3 c4) s)
-  levels-carried zero is s l = record { ain5 = l .ain5; ain1 = l .ain1; ain2 = l .ain2; ain3 = l .ain3; ain4 = l .ain4; ain6 = l .ain6 }
-  levels-carried (suc zero) is s l = let two = both-twelve Ain5 Ain1 is in record { ain5 = two .0; ain1 = two .1; ain2 = l .ain2; ain3 = l .ain3; ain4 = l .ain4; ain6 = l .ain6 }
-  levels-carried (suc (suc zero)) is s l = let two = both-twelve Ain2 Ain3 is in record { ain5 = l .ain5; ain1 = l .ain1; ain2 = two .0; ain3 = two .1; ain4 = l .ain4; ain6 = l .ain6 }
-  levels-carried (suc (suc (suc zero))) is s l = let two = both-twelve Ain4 Ain6 is in record { ain5 = l .ain5; ain1 = l .ain1; ain2 = l .ain2; ain3 = l .ain3; ain4 = two .0; ain6 = two .1 }
-  levels-carried (suc (suc (suc (suc zero)))) is s l = record { ain5 = l .ain5; ain1 = l .ain1; ain2 = l .ain2; ain3 = l .ain3; ain4 = l .ain4; ain6 = l .ain6 }
-  levels-carried (suc (suc (suc (suc (suc at))))) is s l =
-      subst⁻¹ (λ (w : Word). Leveled (carried w s)) (unlisted (suc (suc (suc (suc (suc at))))) c1 c2 c3 c4 (omega arith)) l
+  pub word-leveled : (at : ℕ) → first (levelTests at c1 c3) ≡ Accepted → LeveledWord (wordAt at c1 c2 c3 c4)
+  word-leveled zero is = tt
+  word-leveled (suc zero) is = both-twelve Ain5 Ain1 is
+  word-leveled (suc (suc zero)) is = both-twelve Ain2 Ain3 is
+  word-leveled (suc (suc (suc zero))) is = both-twelve Ain4 Ain6 is
+  word-leveled (suc (suc (suc (suc zero)))) is = tt
+  word-leveled (suc (suc (suc (suc (suc at))))) is = subst⁻¹ LeveledWord (unlisted (suc (suc (suc (suc (suc at))))) c1 c2 c3 c4 (omega arith)) tt
 
-  -- nor the record after it
+  -- nor has the record after it
   pub levels-applied : (at : ℕ) → first (levelTests at c1 c3) ≡ Accepted → (c0 : ℕ) (s : Status) → Leveled s → Leveled (applied c0 (wordAt at c1 c2 c3 c4) s)
   unfolding applied
-  levels-applied at is c0 s l = levels-carried at is (keyed c0 s) (leveled (keyed c0 s) (levels-fit s l))
+  levels-applied at is c0 s l = levels-carried (wordAt at c1 c2 c3 c4) (word-leveled at is) (keyed c0 s) (leveled (keyed c0 s) (levels-fit s l))

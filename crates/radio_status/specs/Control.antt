@@ -10,6 +10,8 @@ use Rattle.radio_status.specs.declared.record.Inputs.{Inputs}
 use Rattle.radio_status.specs.declared.record.Overflow.{Overflow}
 use Rattle.radio_status.specs.declared.record.Versions.{Versions}
 use Rattle.radio_status.specs.declared.record.Status.{Status}
+use Rattle.radio_status.specs.declared.words.Word.{Word}
+use Rattle.radio_status.specs.declared.words.Word.the-variants.{Input, Forward, Reverse, Supply, Board, Unlisted}
 
 -- "C0 bits 7-3 are the address; bit 2 DOT, bit 1 DASH, bit 0 PTT"
 abbrev pub keyByte : Status → ℕ → ℕ
@@ -68,7 +70,7 @@ pub record Versioned (v : Versions) : Type 0 where
   pub third : v .board3 ≤ 127
   pub fourth : v .board4 ≤ 127
 
--- of the levels, as a reader is promised them
+-- of the levels, as a reader is promised them: those of a record, and those of the word that came
 pub record Leveled (s : Status) : Type 0 where
   pub ain5 : s .forward .ain5 ≤ 4095
   pub ain1 : s .forward .ain1 ≤ 4095
@@ -76,6 +78,14 @@ pub record Leveled (s : Status) : Type 0 where
   pub ain3 : s .reverse .ain3 ≤ 4095
   pub ain4 : s .supply .ain4 ≤ 4095
   pub ain6 : s .supply .ain6 ≤ 4095
+
+abbrev pub LeveledWord : Word → Type 0
+LeveledWord (Input w) = Unit {0}
+LeveledWord (Forward l) = (l .ain5 ≤ 4095) × (l .ain1 ≤ 4095)
+LeveledWord (Reverse l) = (l .ain2 ≤ 4095) × (l .ain3 ≤ 4095)
+LeveledWord (Supply l) = (l .ain4 ≤ 4095) × (l .ain6 ≤ 4095)
+LeveledWord (Board w) = Unit {0}
+LeveledWord (Unlisted a) = Unit {0}
 
 -- the header of word w over the start of a frame; with a record that cannot be written, or "a radio word to write outside 0 to 4", the
 -- frame as it was
