@@ -1,10 +1,12 @@
 -- From a scan to the outcome of an accepted call. Assumes nothing.
 use mathlib.Core.Path.{_≡_, sym, ap, _∙_}
-use mathlib.Core.List.{List, _++_}
+use mathlib.Core.Bool.{cond, _&&_}
+use mathlib.Core.List.{List, [], _++_}
 use Prim.Native.Nat.{ℕ, _+_, _-_, _≤_}
 use native.Mathlib.Omega.{arith}
-use lib.ListN.{length, take, drop, length-append, length-drop}
-use lib.Seq.{take-all, take-at, length-take-le}
+use borrow.Author.Tests.{le-leb}
+use lib.Dec.{leb}
+use lib.ListN.{length, drop, length-drop}
 use Rattle.wire.specs.declared.Answer.the-variants.{Accepted}
 use Rattle.stream.proofs.Readings.{counted}
 use Rattle.stream.specs.Reading.{reading}
@@ -14,22 +16,19 @@ use Rattle.stream.specs.Steps.{Scans}
 use Rattle.stream.specs.declared.Stream.{Stream}
 use Rattle.stream.specs.declared.scan.Scanned.{Scanned}
 
-module _ (count : ℕ) (held piece : List ℕ) (fits : count ≤ length held) where
-  pub joined-length : length (take count held ++ piece) ≡ count + length piece
-  joined-length = rw (length-append (take count held) piece, length-take-le count held fits)
-
-  -- the joined bytes, as a part of the cells that they stand in
-  pub joined : (n : ℕ) → take (count + length piece) (cells n (take count held ++ piece)) ≡ take count held ++ piece
-  joined n = take-at (take count held ++ piece) _ (count + length piece) joined-length
+-- a scan of parts that are not too long, to an output that is not too short
+pub scans-all : {r : Scanned} {exit : List ℕ} (held piece output : List ℕ) → length held ≤ 514 → length piece ≤ 4096 → 4096 ≤ length output → Scans (cond (leb (length held) 514 && leb (length piece) 4096 && leb 4096 (length output)) (held ++ piece) []) output r exit → Scans (held ++ piece) output r exit
+scans-all held piece output few short room scans =
+    rw (le-leb (length held) 514 few, le-leb (length piece) 4096 short, le-leb 4096 (length output) room) at scans
 
 module _ {s output exit : List ℕ} {r : Scanned} (scans : Scans s output r exit) where
-  rest : take (length s - r .place) (drop (r .place) s) ≡ reading s .left
-  rest = take-all (length s - r .place) (drop (r .place) s) (rw (length-drop (r .place) s) (omega arith)) ∙ scans .left-is
+  rest : length s - r .place ≡ length (reading s .left)
+  rest = sym (length-drop (r .place) s) ∙ ap length (scans .left-is)
 
-  pub rest-few : length (take (length s - r .place) (drop (r .place) s)) ≤ 514
-  rest-few = rw rest (counted s .few)
+  -- no more than a record may hold
+  pub rest-few : length s ≤ r .place + 514
+  rest-few = omega (arith, rest, counted s .few)
 
-  pub advances : (given : Stream) (piece : ℕ) (held : List ℕ) → held ≡ cells 514 (take (length s - r .place) (drop (r .place) s)) → gave (record { answer = Accepted; frames = r .frames; next = record { held = held; count = length s - r .place; frames = given .frames + r .frames; skipped = given .skipped + r .skipped; total = given .total + piece } }) exit ≡ accepted given piece (reading s) output
-  advances given piece held is =
-      let count : length s - r .place ≡ length (reading s .left) = sym (length-drop (r .place) s) ∙ ap length (scans .left-is) in
-      rw (is, rest, count, scans .frames-is, scans .skipped-is, scans .output-is)
+  pub advances : (given : Stream) (piece count : ℕ) (held : List ℕ) → held ≡ cells 514 (drop (r .place) s) → count ≡ length s - r .place → gave (record { answer = Accepted; frames = r .frames; next = record { held = held; count = count; frames = given .frames + r .frames; skipped = given .skipped + r .skipped; total = given .total + piece } }) exit ≡ accepted given piece (reading s) output
+  advances given piece count held is left =
+      rw (is, scans .left-is, left, rest, scans .frames-is, scans .skipped-is, scans .output-is)

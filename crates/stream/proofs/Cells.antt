@@ -2,9 +2,10 @@
 use mathlib.Core.Path.{_≡_, refl}
 use mathlib.Core.List.{List, _++_}
 use Prim.Native.Nat.{ℕ, zero, suc, _+_, _-_, _≤_}
+use native.Mathlib.Nat.{zero-add}
 use native.Mathlib.Omega.{arith}
 use lib.ListN.{length, take, drop, replicate, length-append, length-replicate}
-use lib.Seq.{take-at, drop-at, take-length, drop-append-add, paste}
+use lib.Seq.{take-at, drop-at, sets, sets-eq}
 use Rattle.stream.specs.Record.{cells}
 
 drop-replicate : (k n a : ℕ) → drop k (replicate n a) ≡ replicate (n - k) a
@@ -22,8 +23,8 @@ module _ (n : ℕ) (s : List ℕ) where
   pub drop-cells : drop (length s) (cells n s) ≡ replicate (n - length s) 0
   drop-cells = drop-at s (replicate (n - length s) 0) (length s) refl
 
-  -- written on, from the first cell that is free
-  pub put-cells : (t : List ℕ) → paste (cells n s) (length s) t (length t) ≡ cells n (s ++ t)
-  put-cells t =
-      let rest : n - length s - length t ≡ n - (length s + length t) = omega arith in
-      rw (take-cells, take-length t, drop-append-add s (replicate (n - length s) 0) (length t), drop-replicate (length t) (n - length s) 0, rest, length-append s t)
+  -- written over cells that are all zero
+  pub sets-zeros : length s ≤ n → sets (replicate n 0) 0 s ≡ cells n s
+  sets-zeros fits =
+      let zeros : length (replicate {A = ℕ} n 0) ≡ n = length-replicate n 0 in
+      rw (sets-eq s (replicate n 0) 0 (omega arith), zero-add (length s), drop-replicate (length s) n 0)

@@ -2,8 +2,11 @@
 pub mod Readings
 pub mod Append
 pub mod InARow
+pub mod NoneGood
 pub mod UnderWay
 pub mod Cells
+pub mod Copies
+pub mod Joined
 pub mod Records
 pub mod Advance
 pub mod Calls

@@ -1,7 +1,8 @@
 -- What `soundOf` tells, as facts about numbers and cells, and the record after a reading. Assumes nothing.
 use mathlib.Core.Path.{_≡_, _∙_}
 use mathlib.Core.Bool.{true, false, _&&_, and-true}
-use Prim.Native.Nat.{_+_, _*_, _^_, _≤_}
+use mathlib.Core.List.{List}
+use Prim.Native.Nat.{ℕ, _+_, _*_, _^_, _≤_}
 use borrow.Author.Tests.{leb-true, eqb-true, le-leb, eq-eqb}
 use lib.Dec.{leb, eqb}
 use lib.ListN.{drop}
@@ -10,6 +11,11 @@ use Rattle.wire.proofs.Cases.{both-true}
 use Rattle.wire.specs.Every.{allZero}
 use Rattle.stream.specs.Record.{soundOf}
 use Rattle.stream.specs.declared.Stream.{Stream}
+use Rattle.stream.specs.declared.Counts.{Counts}
+
+-- the record of numbers and cells that stand apart
+abbrev pub whole : Counts → List ℕ → Stream
+whole n held = record { held = held; count = n .count; frames = n .frames; skipped = n .skipped; total = n .total }
 
 pub record Sound (s : Stream) : Type 0 where
   pub few : s .count ≤ 514

@@ -1,14 +1,18 @@
 -- A reading under way: what the loop of a scan keeps true from place to place. Assumes nothing.
-use mathlib.Core.Path.{_≡_, refl, sym, ap, _∙_}
+use mathlib.Core.Path.{_≡_, refl, sym, ap, _∙_, subst}
 use mathlib.Core.Bool.{true, false}
-use mathlib.Core.List.{List, [], append-nil}
+use mathlib.Core.List.{List, [], _++_, append-nil}
 use Prim.Native.Nat.{ℕ, _+_, _-_, _*_, _<_, _≤_}
-use native.Mathlib.Nat.{add-zero, add-sub-cancel-left}
+use native.Mathlib.Nat.{add-zero}
 use native.Mathlib.Omega.{arith}
-use lib.ListN.{length, take, drop, length-drop, take-append-drop}
-use lib.Seq.{drop-drop, length-take-le, take-all, paste, length-paste, take-paste, drop-paste}
-use Rattle.stream.proofs.Readings.{good-long, good-drop, leaving-then, reading-on, reading-few, reading-good, reading-none}
-use Rattle.stream.specs.Reading.{good, Reading, leaving, frame, skip, _andThen_, reading}
+use lib.ListN.{length, take, drop, length-append, length-drop, take-append-drop}
+use lib.Seq.{drop-drop, length-take-le, sets, length-sets}
+use Rattle.wire.proofs.Cases.{by-order}
+use Rattle.stream.proofs.Copies.{take-sets, drop-sets}
+use Rattle.stream.proofs.InARow.{skips, skips-in-a-row}
+use Rattle.stream.proofs.NoneGood.{NoneGood}
+use Rattle.stream.proofs.Readings.{good-long, good-drop, leaving-then, reading-on, reading-few, reading-good}
+use Rattle.stream.specs.Reading.{good, Reading, leaving, frame, _andThen_, reading}
 use Rattle.stream.specs.Steps.{Scans}
 
 -- what has been read at a place: the frames stand at the start of the output, and what is no frame was skipped
@@ -24,18 +28,6 @@ pub record Far (s output₀ output : List ℕ) (frames place : ℕ) : Type 0 whe
   pub as-long : length output ≡ length output₀
   pub room : 512 * frames ≤ length output
 
--- the part of s that the code names: from a place to 512 past it
-abbrev pub frameAt : List ℕ → ℕ → List ℕ
-frameAt s place = take (place + 512 - place) (drop place s)
-
-frame-part : (s : List ℕ) (place : ℕ) → frameAt s place ≡ take 512 (drop place s)
-frame-part s place = rw (add-sub-cancel-left place 512)
-
-pub frame-length : (s : List ℕ) (place : ℕ) → good s place ≡ true → length (frameAt s place) ≡ 512
-frame-length s place good-here =
-    let long = good-long s place good-here in
-    rw (frame-part s place) (length-take-le 512 (drop place s) (rw (length-drop place s) (omega arith)))
-
 pub far-start : (s output : List ℕ) → Far s output output 0 0
 far-start s output =
     record { so-far = sym (leaving-then [] (reading s)); in-list = omega arith; whole = omega arith; remainder = refl; as-long = refl; room = omega arith }
@@ -50,42 +42,53 @@ module _ {s output₀ output : List ℕ} {frames place : ℕ} (far : Far s outpu
       reading-on s place k (soFar output frames place) first (far .so-far) step
       ∙ ap (λ r. r andThen reading (drop (place + k) s)) more
 
-  pub far-skip : place + 515 ≤ length s → good s place ≡ false → Far s output₀ output frames (place + 1)
-  far-skip enough none =
-      let long : 515 ≤ length (drop place s) = rw (length-drop place s) (omega arith) in
-      let one : place - 512 * frames + 1 ≡ place + 1 - 512 * frames = omega (arith, far .whole) in
+  -- past places of which none begins a good frame
+  pub far-skips : (next : ℕ) → place ≤ next → next ≤ place + (length s - (place + 514)) → NoneGood s place next → Far s output₀ output frames next
+  far-skips next low high none =
+      by-order place next
+      (λ some.
+      let n = next - place in
+      let rest : length (drop place s) ≡ length s - place = length-drop place s in
+      let past : place + n ≡ next = omega arith in
+      let skipped : place - 512 * frames + n ≡ place + n - 512 * frames = omega (arith, far .whole) in
+      subst (Far s output₀ output frames) past
       record {
         so-far =
-            on skip 1 (soFar output frames (place + 1)) (reading-none (drop place s) long (here ∙ none))
-            (rw (one, add-zero frames, append-nil (take (512 * frames) output)));
+            on (skips n) n (soFar output frames (place + n))
+            (skips-in-a-row n (drop place s) (omega arith) (λ k below. good-drop place s k ∙ none .none (place + k) (omega arith) (omega arith)))
+            (rw (skipped, add-zero frames, append-nil (take (512 * frames) output)));
         in-list = omega arith;
         whole = omega (arith, far .whole);
         remainder = far .remainder;
         as-long = far .as-long;
         room = far .room;
-      }
+      })
+      (λ stays. let is : place ≡ next = omega arith in subst (Far s output₀ output frames) is far)
 
   -- the bytes from the place to 512 past it, behind those that stand at the start of the output
-  pub far-good : good s place ≡ true → 512 * frames + 512 ≤ length output → Far s output₀ (paste output (512 * frames) (frameAt s place) (length (frameAt s place))) (frames + 1) (place + 512)
+  pub far-good : good s place ≡ true → 512 * frames + 512 ≤ length output → Far s output₀ (sets output (512 * frames) (take 512 (drop place s))) (frames + 1) (place + 512)
   far-good good-here room =
       let bytes = take 512 (drop place s) in
-      let all : length bytes ≡ 512 = ap length (sym (frame-part s place)) ∙ frame-length s place good-here in
       let long = good-long s place good-here in
+      let all : length bytes ≡ 512 = length-take-le 512 (drop place s) (rw (length-drop place s) (omega arith)) in
       let next : 512 * (frames + 1) ≡ 512 * frames + 512 = omega arith in
       let none : place - 512 * frames + 0 ≡ place + 512 - (512 * frames + 512) = omega (arith, far .whole) in
-      let kept : length (paste output (512 * frames) bytes 512) ≡ length output = length-paste output (512 * frames) bytes 512 (omega arith) (omega arith) in
-      rw (frame-part s place, all)
+      let end : 512 * frames + 512 ≡ 512 * frames + length bytes = omega arith in
+      let handed : take (512 * frames + 512) (sets output (512 * frames) bytes) ≡ take (512 * frames) output ++ bytes =
+      rw end (take-sets output (512 * frames) bytes (omega arith)) in
+      let kept : drop (512 * frames + 512) (sets output (512 * frames) bytes) ≡ drop (512 * frames + 512) output =
+      rw end (drop-sets output (512 * frames) bytes (omega arith)) in
       record {
         so-far =
-            on (frame bytes) 512 (soFar (paste output (512 * frames) bytes 512) (frames + 1) (place + 512)) (reading-good (drop place s) (here ∙ good-here))
-            (rw (next, take-paste output (512 * frames) bytes 512 (omega arith) (omega arith), take-all 512 bytes (omega arith), none));
+            on (frame bytes) 512 (soFar (sets output (512 * frames) bytes) (frames + 1) (place + 512)) (reading-good (drop place s) (here ∙ good-here))
+            (rw (next, handed, none));
         in-list = omega arith;
         whole = omega (arith, far .whole);
         remainder =
-            rw (next, drop-paste output (512 * frames) bytes 512 (omega arith) (omega arith), ← drop-drop 512 (512 * frames) output, far .remainder)
+            rw (next, kept, ← drop-drop 512 (512 * frames) output, far .remainder)
             (drop-drop 512 (512 * frames) output₀);
-        as-long = kept ∙ far .as-long;
-        room = omega arith;
+        as-long = length-sets output (512 * frames) bytes ∙ far .as-long;
+        room = omega (arith, length-sets output (512 * frames) bytes);
       }
 
   pub far-end : length s < place + 515 → Scans s output₀ (record { frames = frames; skipped = place - 512 * frames; place = place }) output
@@ -101,3 +104,40 @@ module _ {s output₀ output : List ℕ} {frames place : ℕ} (far : Far s outpu
         left-is = rw done;
         output-is = rw (done, append-nil (take (512 * frames) output), long, ← far .remainder) (sym (take-append-drop (512 * frames) output));
       }
+
+-- a scan of two parts under way: its place begins a good frame, unless fewer than 515 bytes remain
+pub record Scanning (held piece output₀ output : List ℕ) (frames place : ℕ) : Type 0 where
+  pub far : Far (held ++ piece) output₀ output frames place
+  pub good-here : place + 515 ≤ length held + length piece → good (held ++ piece) place ≡ true
+  pub in-parts : place ≤ length held + length piece
+  pub whole : 512 * frames ≤ place
+  pub as-long : length output ≡ length output₀
+
+-- what the next place is, by the contract of `next_good`
+abbrev Next : List ℕ → List ℕ → ℕ → ℕ → Type 0
+Next held piece start next =
+    ((start ≤ next) × (next ≤ start + (length held + length piece - (start + 514))))
+    × (((k : ℕ) → start ≤ k → k < next → good (held ++ piece) k ≡ false)
+    × (next + 515 ≤ length held + length piece → good (held ++ piece) next ≡ true))
+
+module _ (held piece : List ℕ) where
+  long : length (held ++ piece) ≡ length held + length piece
+  long = length-append held piece
+
+  goes-on : {output₀ output : List ℕ} {frames place : ℕ} (next : ℕ) → Far (held ++ piece) output₀ output frames place → Next held piece place next → Scanning held piece output₀ output frames next
+  goes-on next far found =
+      let there = far-skips far next (found .0 .0) (rw long (found .0 .1)) (record { none = found .1 .0 }) in
+      record { far = there; good-here = found .1 .1; in-parts = rw (← long) (there .in-list); whole = there .whole; as-long = there .as-long }
+
+  module _ {output₀ output : List ℕ} {frames place : ℕ} (scanning : Scanning held piece output₀ output frames place) where
+    pub scan-more : (next : ℕ) → place + 515 ≤ length held + length piece → 512 * frames + 512 ≤ length output → Next held piece (place + 512) next → Scanning held piece output₀ (sets output (512 * frames) (take 512 (drop place (held ++ piece)))) (frames + 1) next
+    scan-more next enough room = goes-on next (far-good (scanning .far) (scanning .good-here enough) room)
+
+    pub scan-end : length held + length piece < place + 515 → Scans (held ++ piece) output₀ (record { frames = frames; skipped = place - 512 * frames; place = place }) output
+    scan-end few = far-end (scanning .far) (rw long few)
+
+  pub scan-start : (output : List ℕ) (next : ℕ) → Next held piece 0 next → Scanning held piece output output 0 next
+  scan-start output next = goes-on next (far-start (held ++ piece) output)
+
+pub scans-nothing : (output : List ℕ) → Scans [] output (record { frames = 0; skipped = 0; place = 0 }) output
+scans-nothing output = far-end (far-start [] output) (omega arith)

@@ -1,81 +1,103 @@
--- `Stream::read_on` meets its contract: all the bytes are the held ones and then the piece. Assumes nothing.
+-- `Stream::read_on` meets its contract: what a scan found makes the outcome. Assumes nothing.
 use mathlib.Core.Path.{_≡_, sym, ap, _∙_}
 use mathlib.Core.List.{List, _++_}
-use Prim.Native.Nat.{ℕ, _+_, _≤_}
+use Prim.Native.Nat.{ℕ, _+_, _-_, _≤_}
 use native.Mathlib.Omega.{arith}
 use denote.Ref.{now}
-use lib.ListN.{length, take}
+use lib.ListN.{length, length-append}
 use lib.Seq.{length-take-le}
-use Rattle.stream.specs.Feed.{accepted}
-use Rattle.stream.specs.Reading.{reading}
+use Rattle.stream.proofs.Advance.{scans-all, rest-few, advances}
 use Rattle.stream.specs.Record.{heldBytes}
-use Rattle.stream.proofs.Advance.{joined, joined-length}
+use Rattle.stream.specs.Steps.{Scans}
 use borrow.Author.Needs.{needs}
 use Rattle.stream.proofs.Stream.read_on.Statement.{statement}
 use Rattle.stream.proofs.Stream.read_on.Tie as tie
 
-add-length : tie.Need-add-length
-add-length c = search needs
+held-fits : (start : tie.Start) → start .args .self .count ≤ length (start .args .self .held)
+held-fits start = let long : length (start .args .self .held) ≡ 514 = search needs in omega arith
 
-in-held : (start : tie.Start) → start .args .self .count ≤ length (start .args .self .held)
-in-held start = let long : length (start .args .self .held) ≡ 514 = search needs in omega arith
+held-long : (start : tie.Start) → length (heldBytes (start .args .self)) ≡ start .args .self .count
+held-long start = length-take-le (start .args .self .count) (start .args .self .held) (held-fits start)
 
-abbrev given : tie.After-join → tie.Start
-given c = c .before .before .before .before .before
+abbrev given : tie.After-scan → tie.Start
+given c = c .before .before .before .before .before .before
 
-abbrev piece : tie.After-join → List ℕ
+abbrev piece : tie.After-scan → List ℕ
 piece c = now (given c .args .piece)
 
-abbrev count : tie.After-join → ℕ
-count c = given c .args .self .count
+abbrev all : tie.After-scan → List ℕ
+all c = heldBytes (given c .args .self) ++ piece c
 
-all-bytes : (c : tie.After-join) → take (count c + length (piece c)) (c .join .result) ≡ heldBytes (given c .args .self) ++ piece c
-all-bytes c =
-    ap (take (count c + length (piece c))) (c .join .ensures)
-    ∙ joined (count c) (given c .args .self .held) (piece c) (in-held (given c)) 4610
+all-long : (c : tie.After-scan) → length (all c) ≡ given c .args .self .count + length (piece c)
+all-long c = length-append (heldBytes (given c .args .self)) (piece c) ∙ ap (λ n. n + length (piece c)) (held-long (given c))
 
-all-length : (c : tie.After-join) → length (take (count c + length (piece c)) (c .join .result)) ≡ count c + length (piece c)
-all-length c =
-    ap length (all-bytes c) ∙ joined-length (count c) (given c .args .self .held) (piece c) (in-held (given c))
+scans : (c : tie.After-scan) → Scans (all c) (now (given c .args .output)) (c .scan .result) (c .scan .last .1 .1 .0)
+scans c =
+    scans-all (heldBytes (given c .args .self)) (piece c) (now (given c .args .output)) (omega (arith, held-long (given c))) (omega arith) (omega arith) (c .scan .ensures)
 
 array-share-prefix-held : tie.Need-array-share-prefix-held
-array-share-prefix-held c = in-held (c .before .before .before)
+array-share-prefix-held c = held-fits (c .before .before .before)
 
-slice-aggregate-join : tie.Need-slice-aggregate-join
-slice-aggregate-join c = let start = c .before .before .before .before in sym (length-take-le _ _ (in-held start))
+slice-aggregate-scan : tie.Need-slice-aggregate-scan
+slice-aggregate-scan c = sym (held-long (c .before .before .before .before))
 
-join-requires : tie.Need-join-requires
-join-requires c κs = let start = c .before .before .before .before in omega (arith, length-take-le (start .args .self .count) (start .args .self .held) (in-held start))
+scan-requires : tie.Need-scan-requires
+scan-requires c κs = search needs
 
-array-share-prefix-joined : tie.Need-array-share-prefix-joined
-array-share-prefix-joined c = search needs
+array-share-prefix-held-2 : tie.Need-array-share-prefix-held-2
+array-share-prefix-held-2 c = held-fits (given (c .before .before))
 
-slice-aggregate-advanced : tie.Need-slice-aggregate-advanced
-slice-aggregate-advanced c = sym (all-length (c .before))
+slice-aggregate-left : tie.Need-slice-aggregate-left
+slice-aggregate-left c = sym (held-long (given (c .before .before .before)))
 
-advanced-requires : tie.Need-advanced-requires
-advanced-requires c κs = (c .before .before .before .before .before .before .before .pre, all-length (c .before .before))
+left-requires : tie.Need-left-requires
+left-requires c κs =
+    let scanned = c .before .before .before in
+    omega (arith, held-long (given scanned), all-long scanned, scans scanned .in-list, rest-few (scans scanned))
+
+add-t17 : tie.Need-add-t17
+add-t17 c = search needs
+
+sub-t18 : tie.Need-sub-t18
+sub-t18 c =
+    let scanned = c .before .before .before .before in
+    omega (arith, all-long scanned, scans scanned .in-list)
+
+add-t20 : tie.Need-add-t20
+add-t20 c = search needs
+
+add-t22 : tie.Need-add-t22
+add-t22 c =
+    let scanned = c .before .before .before .before .before .before in
+    omega (arith, all-long scanned, scans scanned .in-list, scans scanned .place-is)
+
+add-t25 : tie.Need-add-t25
+add-t25 c = search needs
 
 same-length : tie.Need-same-length
 same-length c = search needs
 
 returns : tie.Need-returns
 returns c =
-    let read = c .before .before in
-    let start = given (read .before .before .before) in
-    read .advanced .ensures
-    ∙ ap (λ bytes. accepted (start .args .self) (length (now (start .args .piece))) (reading bytes) (now (start .args .output))) (all-bytes (read .before .before .before))
+    let laid = c .before .before .before in
+    let scanned = laid .before .before .before .before in
+    let place = scanned .scan .result .place in
+    advances (scans scanned) (given scanned .args .self) (length (piece scanned)) (given scanned .args .self .count + length (piece scanned) - place) (laid .left .result) (laid .left .ensures) (ap (λ n. n - place) (sym (all-long scanned)))
 
 pub read-on-spec : {M : Type 1} → statement M
 read-on-spec =
     tie.close
     (tie.spec
-    add-length
     array-share-prefix-held
-    slice-aggregate-join
-    join-requires
-    array-share-prefix-joined
-    slice-aggregate-advanced
-    advanced-requires
+    slice-aggregate-scan
+    scan-requires
+    array-share-prefix-held-2
+    slice-aggregate-left
+    left-requires
+    add-t17
+    sub-t18
+    add-t20
+    add-t22
+    add-t25
     same-length
     returns)

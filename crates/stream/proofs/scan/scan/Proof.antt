@@ -1,114 +1,52 @@
--- `scan::scan` meets its contract: each way through the loop is a step of the reading. Assumes nothing.
-use mathlib.Core.Path.{_≡_, sym, _∙_}
-use Prim.Native.Nat.{_-_}
-use native.Mathlib.Omega.{arith}
-use denote.Ref.{now}
-use lib.ListN.{length}
-use mathlib.Core.Bool.{true}
-use Rattle.stream.specs.Reading.{good}
-use Rattle.stream.proofs.UnderWay.{Far, frame-length, far-start, far-skip, far-good, far-end}
+-- `scan::scan` meets its contract: a reading where all fits, and of nothing where it does not. Assumes nothing.
+use borrow.Author.Tests.{le-leb, lt-leb}
+use Rattle.stream.proofs.UnderWay.{scans-nothing}
+use borrow.Author.Needs.{needs}
 use Rattle.stream.proofs.scan.scan.Statement.{statement}
 use Rattle.stream.proofs.scan.scan.Tie as tie
 
-abbrev Inv-loop : tie.InvT-loop
-Inv-loop bytes output₀ frames₀ place₀ output frames place = Far bytes output₀ output frames place
+none-requires : tie.Need-none-requires
+none-requires c κs = search needs
 
-abbrev μ-loop : tie.MeasureT-loop
-μ-loop bytes output₀ frames₀ place₀ output frames place = length bytes - place
+returns : tie.Need-returns
+returns c = rw (c .none .ensures, lt-leb _ _ (c .before .if1 .taken)) (scans-nothing _)
 
-loop-holds : tie.Need-loop-holds Inv-loop μ-loop
-loop-holds c = let given = c .before .before .args in far-start (now (given .bytes)) (now (given .output))
+none-requires-2 : tie.Need-none-requires-2
+none-requires-2 c κs = search needs
 
-add-loop : tie.Need-add-loop Inv-loop μ-loop
-add-loop c = omega arith
+returns-2 : tie.Need-returns-2
+returns-2 c = rw (c .none2 .ensures, le-leb _ _ (c .before .before .if1 .left), lt-leb _ _ (c .before .if2 .taken)) (scans-nothing _)
 
-good-here : (c : tie.Then1 Inv-loop μ-loop) → good (now (c .before .before .before .before .before .before .args .bytes)) (c .before .before .before .loop .place) ≡ true
-good-here c = sym (c .before .begins .ensures) ∙ c .if1 .taken
+none-requires-3 : tie.Need-none-requires-3
+none-requires-3 c κs = search needs
 
-begins-requires : tie.Need-begins-requires Inv-loop μ-loop
-begins-requires c κs = omega arith
+returns-3 : tie.Need-returns-3
+returns-3 c =
+    let second = c .before .before in
+    rw (c .none3 .ensures, le-leb _ _ (second .before .if1 .left), le-leb _ _ (second .if2 .left), lt-leb _ _ (c .before .if3 .taken)) (scans-nothing _)
 
-mul-put : tie.Need-mul-put Inv-loop μ-loop
-mul-put c = omega arith
+read-requires : tie.Need-read-requires
+read-requires c κs = search needs
 
-add-put : tie.Need-add-put Inv-loop μ-loop
-add-put c = omega arith
+same-length : tie.Need-same-length
+same-length c = search needs
 
-sub-put : tie.Need-sub-put Inv-loop μ-loop
-sub-put c = omega arith
-
-part-put-start : tie.Need-part-put-start Inv-loop μ-loop
-part-put-start c = omega arith
-
-part-put-end : tie.Need-part-put-end Inv-loop μ-loop
-part-put-end c = omega arith
-
-put-requires : tie.Need-put-requires Inv-loop μ-loop
-put-requires c κs =
-    let turn = c .before .before .before .before .before in
-    let bytes = now (turn .before .before .before .args .bytes) in
-    omega (arith, frame-length bytes (turn .loop .place) (good-here (c .before .before)))
-
-add-frames : tie.Need-add-frames Inv-loop μ-loop
-add-frames c = omega arith
-
-add-place : tie.Need-add-place Inv-loop μ-loop
-add-place c = omega arith
-
-loop-less : tie.Need-loop-less Inv-loop μ-loop
-loop-less c = omega arith
-
-loop-again : tie.Need-loop-again Inv-loop μ-loop
-loop-again c =
-    let turn = c .before .before .before .before .before .before .before .before in
-    rw (c .before .before .put .ensures) (far-good (turn .loop .inv) (good-here (c .before .before .before .before .before)) (omega arith))
-
-add-place-2 : tie.Need-add-place-2 Inv-loop μ-loop
-add-place-2 c = omega arith
-
-loop-less-2 : tie.Need-loop-less-2 Inv-loop μ-loop
-loop-less-2 c = omega arith
-
-loop-again-2 : tie.Need-loop-again-2 Inv-loop μ-loop
-loop-again-2 c =
-    let turn = c .before .before .before in
-    far-skip (turn .loop .inv) (omega arith) (sym (c .before .begins .ensures) ∙ c .if1 .left)
-
-mul-t18 : tie.Need-mul-t18 Inv-loop μ-loop
-mul-t18 c = omega arith
-
-sub-t19 : tie.Need-sub-t19 Inv-loop μ-loop
-sub-t19 c = omega arith
-
-same-length : tie.Need-same-length Inv-loop μ-loop
-same-length c = omega arith
-
-returns : tie.Need-returns Inv-loop μ-loop
-returns c = far-end (c .before .loop .inv) (omega arith)
+returns-4 : tie.Need-returns-4
+returns-4 c =
+    let third = c .before .before .before .before in
+    let second = third .before in
+    rw (le-leb _ _ (second .before .if1 .left), le-leb _ _ (second .if2 .left), le-leb _ _ (third .if3 .left)) (c .before .before .read .ensures)
 
 pub scan-spec : {M : Type 1} → statement M
 scan-spec =
     tie.close
     (tie.spec
-    Inv-loop
-    μ-loop
-    loop-holds
-    add-loop
-    begins-requires
-    mul-put
-    add-put
-    sub-put
-    part-put-start
-    part-put-end
-    put-requires
-    add-frames
-    add-place
-    loop-less
-    loop-again
-    add-place-2
-    loop-less-2
-    loop-again-2
-    mul-t18
-    sub-t19
+    none-requires
+    returns
+    none-requires-2
+    returns-2
+    none-requires-3
+    returns-3
+    read-requires
     same-length
-    returns)
+    returns-4)
