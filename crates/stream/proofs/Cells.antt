@@ -8,7 +8,7 @@ use lib.ListN.{length, take, drop, replicate, length-append, length-replicate}
 use lib.Seq.{take-at, drop-at, sets, sets-eq}
 use Rattle.stream.specs.Record.{cells}
 
-drop-replicate : (k n a : ℕ) → drop k (replicate n a) ≡ replicate (n - k) a
+pub drop-replicate : (k n a : ℕ) → drop k (replicate n a) ≡ replicate (n - k) a
 drop-replicate zero n a = let all : n - 0 ≡ n = omega arith in rw all
 drop-replicate (suc k) zero a = let none : 0 - suc k ≡ 0 = omega arith in rw none
 drop-replicate (suc k) (suc n) a = let less : suc n - suc k ≡ n - k = omega arith in rw less (drop-replicate k n a)

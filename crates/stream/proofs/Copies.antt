@@ -1,12 +1,12 @@
--- Bytes over others: where they fit, where they do not, and one after the other. Assumes nothing.
+-- Bytes over others: where they fit and where they do not, and what stands before and behind them. Assumes nothing.
 use mathlib.Core.Path.{_≡_, ap, _∙_}
 use mathlib.Core.Bool.{cond}
-use mathlib.Core.List.{List, [], _∷_, _++_}
-use Prim.Native.Nat.{ℕ, suc, _+_, _<_, _≤_}
+use mathlib.Core.List.{List, _++_}
+use Prim.Native.Nat.{ℕ, _+_, _<_, _≤_}
 use native.Mathlib.Omega.{arith}
 use borrow.Author.Tests.{le-leb, lt-leb}
 use lib.Dec.{leb}
-use lib.ListN.{length, set, take, drop, length-append}
+use lib.ListN.{length, take, drop, length-append}
 use lib.Seq.{length-take-le, take-at, drop-at, sets, sets-eq}
 
 module _ (to : List ℕ) (place : ℕ) (from : List ℕ) where
@@ -32,9 +32,3 @@ module _ (to : List ℕ) (place : ℕ) (from : List ℕ) (fits : place + length 
   drop-sets =
       ap (drop (place + length from)) (sets-eq from to place fits)
       ∙ drop-at (take place to ++ from) (drop (place + length from) to) (place + length from) before
-
-pub sets-append : (xs ys l : List ℕ) (i : ℕ) → sets (sets l i xs) (i + length xs) ys ≡ sets l i (xs ++ ys)
-sets-append [] ys l i = let none : i + 0 ≡ i = omega arith in rw none
-sets-append (x ∷ xs) ys l i =
-    let next : i + suc (length xs) ≡ suc i + length xs = omega arith in
-    rw next (sets-append xs ys (set l i x) (suc i))

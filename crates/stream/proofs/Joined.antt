@@ -7,7 +7,8 @@ use native.Mathlib.Omega.{arith}
 use lib.ListN.{length, getD, take, drop, length-drop, List·getD-append}
 use lib.Seq.{take-append-le, take-append-add, drop-append-le, drop-append-add, getD-append-add, length-take-le, take-all, sets, length-sets}
 use Rattle.wire.proofs.Cases.{by-order}
-use Rattle.stream.proofs.Copies.{written, all-written, sets-append}
+use Rattle.wire.proofs.Lists.{sets-append}
+use Rattle.stream.proofs.Copies.{written, all-written}
 
 module _ (held piece : List ℕ) where
   pub byte-held : (p : ℕ) → p < length held → getD held p 0 ≡ getD (held ++ piece) p 0
@@ -62,4 +63,4 @@ module _ (held piece : List ℕ) where
         let size : length (sets to at first) ≡ length to = length-sets to at first in
         let behind : at + near ≡ at + length first = ap (λ k. at + k) (sym first-long) in
         rw (add-sub-cancel-left p near, all-written to at first (omega arith), all-written (sets to at first) (at + near) second (omega arith), behind)
-        (sets-append first second to at ∙ ap (sets to at) whole)
+        (sets-append to at first second ∙ ap (sets to at) whole)

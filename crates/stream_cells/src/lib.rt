@@ -3,8 +3,9 @@
 // No public function here has a `requires`: where there are too few cells nothing is written, and what is
 // made of them is a fresh record.
 use stream::Stream;
+use stream::bytes::put;
 ghost use mathlib.Core.Path.{_≡_};
-ghost use Prim.Native.Nat.{_+_, _≤_};
+ghost use Prim.Native.Nat.{_≤_};
 ghost use lib.ListN.{length, take};
 ghost use lib.Seq.{sets};
 ghost use Rattle.stream_cells.specs.Stream.{lent, countsOf, streamIn, putIn};
@@ -40,7 +41,7 @@ pub(crate) fn held_of(held: &[u8]) -> [u8; 514]
     ensures { λ r. ⌜ r ≡ take 514 (now (held .entry)) ⌝ }
 {
     let mut cells = [0u8; 514];
-    put_bytes(&mut cells, 0, &held[..514]);
+    put(&mut cells, 0, &held[..514]);
     cells
 }
 
@@ -53,7 +54,7 @@ pub fn put_stream(stream: Stream, counts: &mut [u64], held: &mut [u8])
     }
     let bytes = stream.held;
     put_counts(stream, counts);
-    put_bytes(held, 0, &bytes);
+    put(held, 0, &bytes);
 }
 
 pub(crate) fn put_counts(stream: Stream, counts: &mut [u64])
@@ -64,16 +65,4 @@ pub(crate) fn put_counts(stream: Stream, counts: &mut [u64])
     counts[1] = stream.frames;
     counts[2] = stream.skipped;
     counts[3] = stream.total;
-}
-
-// Writes bytes over others from a place on.
-pub(crate) fn put_bytes(to: &mut [u8], place: usize, from: &[u8])
-    requires { ⌜ place + length (now from) ≤ length (now to) ⌝ }
-    ensures { λ _. ⌜ now (to .exit) ≡ sets (now (to .entry)) place (now (from .entry)) ⌝ }
-{
-    let mut i = 0;
-    while i < from.len() {
-        to[place + i] = from[i];
-        i += 1;
-    }
 }

@@ -1,9 +1,13 @@
 -- The stream's calls through the door, in their cases. Assumes nothing.
-use mathlib.Core.Path.{_≡_}
+use mathlib.Core.Path.{_≡_, ap, _∙_}
 use mathlib.Core.Bool.{Bool, cond, true, false}
 use mathlib.Core.List.{List}
 use Prim.Native.Nat.{ℕ}
+use native.Mathlib.Nat.{add-zero}
+use lib.ListN.{length}
 use lib.Seq.{sets}
+use Rattle.wire.specs.Answers.{numberOf, accepts}
+use Rattle.stream.proofs.Calls.{answer, refuses}
 use Rattle.stream.specs.Feed.{feedOf}
 use Rattle.stream.specs.Record.{freshOf, soundOf}
 use Rattle.cells.specs.Cells.{badState}
@@ -35,3 +39,11 @@ module _ (counts held : List ℕ) where
     pub feed-good : lent counts held ≡ true → feedIn counts held piece output ≡ shown counts held (feedOf (streamOf counts held) piece output)
     unfolding feedIn
     feed-good good = rw good
+
+    -- a refusal by the feed's own tests leaves all as it was
+    pub feed-refused : lent counts held ≡ true → accepts (answer (streamOf counts held) (length piece) (length output)) ≡ false → feedIn counts held piece output ≡ gave (numberOf (answer (streamOf counts held) (length piece) (length output))) counts held output
+    feed-refused good refused =
+        let number = numberOf (answer (streamOf counts held) (length piece) (length output)) in
+        feed-good good
+        ∙ ap (shown counts held) (refuses (streamOf counts held) piece output refused)
+        ∙ rw (refused, add-zero number)

@@ -6,6 +6,7 @@ use native.Mathlib.Omega.{arith}
 use borrow.Author.Tests.{not-true, not-false}
 use denote.Ref.{now}
 use lib.ListN.{length}
+use Rattle.stream.proofs.Copies.{all-written}
 use Rattle.stream_cells.specs.Stream.{lent}
 use Rattle.stream_cells.proofs.Cases.{enough, put-few, put-room}
 use borrow.Author.Needs.{needs}
@@ -17,6 +18,9 @@ fits c = sym (c .before .room .ensures) ∙ not-false _ (c .if1 .left)
 
 has-room : (c : tie.Else1) → (4 ≤ length (now (c .before .before .before .before .before .before .args .counts))) × (514 ≤ length (now (c .before .before .before .before .before .before .args .held)))
 has-room c = enough (now (c .before .before .before .before .before .before .args .counts)) (now (c .before .before .before .before .before .before .args .held)) (fits c)
+
+long : (start : tie.Start) → length (start .args .stream .held) ≡ 514
+long start = search needs
 
 room-requires : tie.Need-room-requires
 room-requires c κs = search needs
@@ -33,14 +37,11 @@ returns c = sym (put-few _ _ (c .before .before .before .before .before .before 
 put-counts-requires : tie.Need-put-counts-requires
 put-counts-requires c κs = has-room (c .before .before) .0
 
-slice-aggregate-put-bytes : tie.Need-slice-aggregate-put-bytes
-slice-aggregate-put-bytes c = search needs
+slice-aggregate-put : tie.Need-slice-aggregate-put
+slice-aggregate-put c = search needs
 
-put-bytes-requires : tie.Need-put-bytes-requires
-put-bytes-requires c κs =
-    let tested = c .before .before .before .before .before .before .before in
-    let long : length (tested .before .before .before .before .before .before .args .stream .held) ≡ 514 = search needs in
-    omega (arith, long, has-room tested .1)
+put-requires : tie.Need-put-requires
+put-requires c κs = search needs
 
 same-length-3 : tie.Need-same-length-3
 same-length-3 c = search needs
@@ -53,8 +54,11 @@ returns-2 c =
     let bytes = c .before .before in
     let counts = bytes .before .before .before .before .before in
     let tested = counts .before .before .before in
-    (λ i. (counts .put-counts .ensures i, bytes .put-bytes .ensures i))
-    ∙ sym (put-room _ _ (tested .before .before .before .before .before .before .args .stream) (fits tested))
+    let start = tested .before .before .before .before .before .before in
+    let held =
+    bytes .put .ensures ∙ all-written (now (start .args .held)) 0 (start .args .stream .held) (omega (arith, long start, has-room tested .1)) in
+    (λ i. (counts .put-counts .ensures i, held i))
+    ∙ sym (put-room _ _ (start .args .stream) (fits tested))
 
 pub put-stream-spec : {M : Type 1} → statement M
 put-stream-spec =
@@ -65,8 +69,8 @@ put-stream-spec =
     same-length-2
     returns
     put-counts-requires
-    slice-aggregate-put-bytes
-    put-bytes-requires
+    slice-aggregate-put
+    put-requires
     same-length-3
     same-length-4
     returns-2)
