@@ -1,6 +1,7 @@
 #!/bin/sh
 # Builds the tests of the library from C and the examples against the archive, and runs the tests and peaks, alone and
-# under valgrind; the tests of the header's short forms as C++ too. Says nothing unless something fails.
+# under valgrind; the tests of the header's short forms as C++ too. Says how much stack a feeding needs, and nothing
+# else unless something fails.
 set -eu
 root=$(cd "$(dirname "$0")/.." && pwd)
 archive=$root/target/archive/libhpsdr.a
@@ -150,6 +151,7 @@ check_output() {
 build tests/door.c "$work/door"
 build tests/forms.c "$work/forms"
 build tests/recordings.c "$work/recordings"
+build tests/stack.c "$work/stack"
 build_as_cpp tests/forms.c "$work/forms.cpp"
 build_as_cpp tests/recordings.c "$work/recordings.cpp"
 build examples/peaks.c "$work/peaks"
@@ -166,6 +168,8 @@ run forms
 run forms.cpp
 run recordings "$work/lost" "$work/imitated" "$work/stray"
 run recordings.cpp "$work/lost" "$work/imitated" "$work/stray"
+# Alone: what valgrind does with the stack is not the library's doing.
+"$work/stack" || fail 'tests/stack finds faults'
 
 recording=$root/examples/recording.bin
 cmp "$recording" "$work/lost" || fail "examples/recording.bin is not what examples/recording.sh makes"
