@@ -1,6 +1,7 @@
 //! Holds the library, through its C door, against the reference: both make the same calls on the same
 //! inputs, and every cell that was lent is compared after each, whether it worked or was refused.
 
+mod across;
 mod case;
 mod flaw;
 mod host;
@@ -16,6 +17,7 @@ mod transfer;
 mod twist;
 mod whole;
 
+use across::{Theme, FRAMES_CUT, SINGLE, SYNCS_CUT};
 use case::{made, Call, Case, Draw, Part};
 use differential::{both, cells, lent, model, random};
 use flaw::Flaw;
@@ -35,6 +37,8 @@ struct Run<'a> {
     random: Random,
     guards: Guards,
     tally: &'a mut Tally,
+    /// Where the frames that it lays across joins are counted.
+    theme: Option<&'static Theme>,
 }
 
 /// The call's line of the table, and those of the parts that are chosen.
@@ -58,18 +62,34 @@ fn single<C: Case>(run: Run) -> Result<(), Differs> {
     Ok(())
 }
 
-fn whole(run: Run) -> Result<(), Differs> {
+/// A single feeding with a frame across the join.
+fn across(run: Run) -> Result<(), Differs> {
     let mut draw = Draw {
         random: run.random,
         turn: run.number,
     };
-    let ran = whole::run(&mut draw, &run.guards);
+    let (feed, reading) = stream::Feed::across(&mut draw);
+    let returned = feed.compare(&run.guards);
+    let returned = returned.and_then(|returned| reading.check(returned));
+    let returned = returned.map_err(|difference| (stream::Feed::CALL.name, difference))?;
+    run.tally.count(&[stream::Feed::CALL], returned);
+    run.tally.count_across(run.theme, &reading.across);
+    Ok(())
+}
+
+fn whole(run: Run, stream: whole::Stream) -> Result<(), Differs> {
+    let mut draw = Draw {
+        random: run.random,
+        turn: run.number,
+    };
+    let ran = stream(&mut draw, &run.guards);
     let ran = ran.map_err(|difference| (stream::Feed::CALL.name, difference))?;
     for returned in ran.returned {
         run.tally.count(&[stream::Feed::CALL], returned);
     }
     run.tally.wholes += 1;
     run.tally.demanded += u64::from(ran.demanded);
+    run.tally.count_across(run.theme, &ran.across);
     Ok(())
 }
 
@@ -77,6 +97,7 @@ struct Kind {
     run: fn(Run) -> Result<(), Differs>,
     lines: fn() -> Vec<Call>,
     flaws: fn() -> Vec<(&'static str, Flaw)>,
+    theme: Option<&'static Theme>,
     /// How many cases of this kind stand in one round.
     share: usize,
 }
@@ -91,6 +112,7 @@ const fn kind<C: Case>(share: usize) -> Kind {
                 .map(|flaw| (C::CALL.name, flaw))
                 .collect()
         },
+        theme: None,
         share,
     }
 }
@@ -110,8 +132,24 @@ const KINDS: &[Kind] = &[
     kind::<stream::Feed>(30),
     // Some sixty calls each.
     Kind {
-        run: whole,
+        run: |run| whole(run, whole::run),
         ..kind::<stream::Feed>(1)
+    },
+    Kind {
+        run: across,
+        theme: Some(&SINGLE),
+        ..kind::<stream::Feed>(26)
+    },
+    // Some four calls each.
+    Kind {
+        run: |run| whole(run, whole::run_in_syncs),
+        theme: Some(&SYNCS_CUT),
+        ..kind::<stream::Feed>(2)
+    },
+    Kind {
+        run: |run| whole(run, whole::run_in_frames),
+        theme: Some(&FRAMES_CUT),
+        ..kind::<stream::Feed>(2)
     },
 ];
 
@@ -140,6 +178,7 @@ fn run(case: usize, options: &Options, tally: &mut Tally) -> Result<(), Differs>
             Guards::around(case)
         },
         tally,
+        theme: kind.theme,
     })
 }
 
@@ -150,7 +189,8 @@ fn main() -> ExitCode {
     };
     let lines = KINDS.iter().flat_map(|kind| (kind.lines)());
     let flaws = KINDS.iter().flat_map(|kind| (kind.flaws)());
-    let mut tally = Tally::of(lines, flaws);
+    let themes = KINDS.iter().filter_map(|kind| kind.theme);
+    let mut tally = Tally::of(lines, flaws, themes);
     let mut cases = options.case.map_or(0..usize::MAX, |case| case..case + 1);
     while let Some(case) = cases.next().filter(|_| tally.calls < options.calls) {
         if let Err((call, difference)) = run(case, &options, &mut tally) {

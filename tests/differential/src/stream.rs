@@ -1,11 +1,12 @@
 //! Single calls on a stream record: whether it is sound, and one feeding.
 
+use crate::across::{Reading, SYNC_BYTES, WINDOW};
 use crate::both;
 use crate::case::{outcome, Call, Case, Draw, Outcome, Twist};
 use crate::cells::{COUNTS, HELD};
 use crate::lent::Guards;
-use crate::text::text;
-use crate::twist::{cell_count, resize, FRAME};
+use crate::text::{frame, near_sync, text};
+use crate::twist::{cell_count, resize, FRAME, SYNC};
 
 pub const PIECE_MOST: usize = 4096;
 pub const OUTPUT_LEAST: usize = 4096;
@@ -23,11 +24,42 @@ const WRAPPING_FRAMES: u64 = 1 << 55;
 const HELD_COUNT: usize = 0;
 const FRAMES: usize = 1;
 const SKIPPED: usize = 2;
+const TOTAL: usize = 3;
+
+/// How many bytes of a frame and the sync after it are held, where the join is beside a sync byte.
+const HELD_BESIDE_SYNC: [usize; 5] = [1, 2, 512, 513, 514];
 
 fn held_count(draw: &mut Draw) -> usize {
     let any = draw.random.below(HELD + 1);
     let edge = draw.random.pick(&HELD_EDGES);
     draw.random.pick(&[any, edge])
+}
+
+/// How many bytes are held, and how many of these begin a frame: each pair in its turn.
+fn held_anywhere(turn: usize) -> (usize, usize) {
+    // The pairs are a table: in a row those with so many held bytes, up to 257, and behind them those with as many
+    // fewer than 515. It has 257 rows and 515 columns, which have no common divisor.
+    let (row, column) = (turn % (HELD / 2), turn % (HELD + 1));
+    match column <= row {
+        true => (row + 1, column + 1),
+        false => (HELD - row, column - row),
+    }
+}
+
+fn held_beside_sync(turn: usize) -> (usize, usize) {
+    let of_frame = HELD_BESIDE_SYNC[turn % HELD_BESIDE_SYNC.len()];
+    let before = turn / HELD_BESIDE_SYNC.len() % (HELD + 1 - of_frame);
+    (before + of_frame, of_frame)
+}
+
+/// What stands before a frame.
+fn before(length: usize, draw: &mut Draw) -> Vec<u8> {
+    match draw.random.below(6) {
+        0 => vec![0x7f; length],
+        1 => near_sync(length, draw),
+        2 => text(length, draw),
+        _ => draw.random.bytes(length),
+    }
 }
 
 pub struct Record {
@@ -194,6 +226,44 @@ impl Feed {
         }
     }
 
+    /// Held bytes and piece are neighbours in one text, so that frames and sync lie across both.
+    fn of_text(text: &[u8], held: usize, draw: &mut Draw) -> Feed {
+        let more = draw.random.pick(&[0, 0, 1, 100]);
+        Feed {
+            record: Record::holding(&text[..held], draw),
+            piece: text[held..].to_vec(),
+            output: draw.random.bytes(OUTPUT_LEAST + more),
+        }
+    }
+
+    /// A frame across the join, good or with a sync byte that is wrong, in a call that is accepted; and its reading.
+    pub fn across(draw: &mut Draw) -> (Feed, Reading) {
+        let (held, of_frame) = match draw.turn % 2 {
+            0 => held_anywhere(draw.turn / 2),
+            _ => held_beside_sync(draw.turn / 2),
+        };
+        let place = held - of_frame;
+        let mut bytes = before(place, draw);
+        bytes.extend(frame(draw));
+        bytes.extend(SYNC);
+        // Somewhat more than half of them are good.
+        if let Some(byte) = SYNC_BYTES.get(draw.turn % 13) {
+            bytes[place + byte] ^= 1 << draw.random.below(8);
+        }
+        let most = PIECE_MOST - (WINDOW - of_frame);
+        let any = draw.random.below(most);
+        let more = draw.random.pick(&[0, 0, 1, 2, 3, 509, 512, 515, any, most]);
+        bytes.extend(text(more, draw));
+        let mut feed = Feed::of_text(&bytes, held, draw);
+        let room = TOTAL_MOST - feed.piece.len() as u64;
+        if feed.record.counts[TOTAL] > room {
+            feed.record.end_near(room);
+        }
+        let mut reading = Reading::new(vec![place]);
+        reading.go_on(&bytes, held);
+        (feed, reading)
+    }
+
     /// Makes the call on both sides, and takes over what the library left.
     pub fn step(&mut self, piece: &[u8], guards: &Guards) -> Outcome {
         self.piece.clear();
@@ -238,19 +308,12 @@ impl Case for Feed {
         |case, draw| resize(&mut case.output, draw.in_turn(&OUTPUT_LENGTHS), draw),
     );
 
-    /// Held bytes and piece are neighbours in one text, so that frames and sync lie across both.
     fn valid(draw: &mut Draw) -> Self {
         let any = draw.random.below(PIECE_MOST + 1);
         let edge = draw.in_turn(&PIECE_LENGTHS);
         let length = draw.random.pick(&[any, edge, draw.turn % 600]);
         let count = held_count(draw);
-        let both = text(count + length, draw);
-        let more = draw.random.pick(&[0, 0, 1, 100]);
-        Feed {
-            record: Record::holding(&both[..count], draw),
-            piece: both[count..].to_vec(),
-            output: draw.random.bytes(OUTPUT_LEAST + more),
-        }
+        Feed::of_text(&text(count + length, draw), count, draw)
     }
 
     fn compare(mut self, guards: &Guards) -> Outcome {

@@ -1,5 +1,7 @@
-//! How many calls were made, how many of each answer came, and of each place that a refusal says.
+//! How many calls were made, how many of each answer came, of each place that a refusal says, and of each way that a
+//! frame lies across a join.
 
+use crate::across::{Across, Cut, Theme, SYNC_BYTES};
 use crate::case::Call;
 use crate::flaw::Flaw;
 use std::collections::BTreeMap;
@@ -17,6 +19,8 @@ pub struct Tally {
     lines: Vec<Line>,
     /// How often a call was refused for each flaw.
     flaws: BTreeMap<(&'static str, Flaw), u64>,
+    /// How often a frame lay so across a join, by the theme.
+    across: BTreeMap<(&'static str, Across), u64>,
     pub calls: u64,
     pub wholes: u64,
     /// Of those, how many demand 3 spoke of.
@@ -24,13 +28,17 @@ pub struct Tally {
 }
 
 impl Tally {
-    /// The calls and parts, and the flaws that must come in a call.
+    /// The calls and parts, the flaws that must come in a call, and the themes of frames across a join.
     pub fn of(
         calls: impl Iterator<Item = Call>,
         flaws: impl Iterator<Item = (&'static str, Flaw)>,
+        themes: impl Iterator<Item = &'static Theme>,
     ) -> Tally {
         let mut tally = Tally {
             flaws: flaws.map(|flaw| (flaw, 0)).collect(),
+            across: themes
+                .flat_map(|theme| theme.must_come().map(|across| ((theme.name, across), 0)))
+                .collect(),
             ..Tally::default()
         };
         for call in calls {
@@ -52,6 +60,13 @@ impl Tally {
         *self.flaws.entry((call, flaw)).or_default() += 1;
     }
 
+    pub fn count_across(&mut self, theme: Option<&Theme>, across: &[Across]) {
+        let Some(theme) = theme else { return };
+        for &across in across {
+            *self.across.entry((theme.name, across)).or_default() += 1;
+        }
+    }
+
     /// Counts one call, in its line and in those of its parts.
     pub fn count(&mut self, lines: &[Call], returned: u32) {
         for call in lines {
@@ -61,7 +76,7 @@ impl Tally {
         self.calls += 1;
     }
 
-    /// The answers that should have come and did not, or the other way round; and the flaws that did not.
+    /// The answers that should have come and did not, or the other way round; and what must come else and did not.
     pub fn faults(&self) -> Vec<String> {
         let of_line = |line: &Line| {
             let expected = |answer: usize| line.call.answers.contains(&(answer as u8));
@@ -73,6 +88,9 @@ impl Tally {
         let mut faults: Vec<String> = self.lines.iter().flat_map(of_line).collect();
         let missing = self.flaws.iter().filter(|(_, came)| **came == 0);
         faults.extend(missing.map(|((call, flaw), _)| format!("{call}: {flaw} came 0 times")));
+        let missing = self.across.iter().filter(|(_, came)| **came == 0);
+        faults
+            .extend(missing.map(|((theme, across), _)| format!("{theme}: {across}, came 0 times")));
         if self.demanded == 0 || self.demanded == self.wholes {
             faults.push(format!(
                 "demand 3 spoke of {} whole streams of {}",
@@ -110,6 +128,30 @@ impl Tally {
         }
         Ok(())
     }
+
+    /// A line for each cut of a theme: how often a good frame lay so, and a near miss by each of the sync bytes.
+    fn write_across(&self, f: &mut fmt::Formatter) -> fmt::Result {
+        let mut lines: BTreeMap<(&str, Cut), [u64; SYNC_BYTES.len() + 1]> = BTreeMap::new();
+        for (&(theme, Across { cut, wrong }), &came) in &self.across {
+            let counts = lines.entry((theme, cut)).or_default();
+            counts[wrong.map_or(0, |byte| 1 + byte)] = came;
+        }
+        let mut last = "";
+        for ((theme, cut), counts) in lines {
+            if theme != last {
+                let title = format!("{theme}, across the join");
+                write!(f, "{title:36}{:>9}", "good")?;
+                (SYNC_BYTES.iter())
+                    .try_for_each(|byte| write!(f, "{:>9}", format!("not {byte}")))?;
+                writeln!(f)?;
+                last = theme;
+            }
+            write!(f, "- {:34}", cut.to_string())?;
+            (counts.iter()).try_for_each(|count| write!(f, "{count:>9}"))?;
+            writeln!(f)?;
+        }
+        Ok(())
+    }
 }
 
 impl fmt::Display for Tally {
@@ -124,6 +166,7 @@ impl fmt::Display for Tally {
         }
         writeln!(f, "{:26}{:>10}", "in all", self.calls)?;
         self.write_flaws(f)?;
+        self.write_across(f)?;
         let (wholes, demanded) = (self.wholes, self.demanded);
         write!(
             f,

@@ -3,6 +3,7 @@
 //! which no place begins a good frame, and that by good frames and sync, then in every cutting just
 //! those frames come out, and the skipped count is the middle's length.
 
+use crate::across::{Across, Reading};
 use crate::case::Draw;
 use crate::lent::Guards;
 use crate::model::Parts;
@@ -27,7 +28,12 @@ pub struct Ran {
     pub returned: Vec<u32>,
     /// Whether demand 3 spoke of it.
     pub demanded: bool,
+    /// How its frames lay across joins. Where demand 3 does not speak, frames come by chance, and do not count.
+    pub across: Vec<Across>,
 }
+
+/// A way to draw and to feed one.
+pub type Stream = fn(&mut Draw, &Guards) -> Result<Ran, String>;
 
 fn frames(count: usize, draw: &mut Draw) -> Vec<u8> {
     (0..count).flat_map(|_| frame(draw)).collect()
@@ -85,6 +91,15 @@ impl Whole {
         Whole::of(before, length, 1, draw)
     }
 
+    /// The places of the syncs: of the first frames, with the one after them, and of those after the middle.
+    fn syncs(&self) -> Vec<usize> {
+        let first = (0..self.before + 1).step_by(FRAME);
+        let after = (self.before + self.middle..self.bytes.len()).step_by(FRAME);
+        let mut syncs: Vec<_> = first.filter(|_| self.before > 0).chain(after).collect();
+        syncs.dedup();
+        syncs
+    }
+
     fn begins_good_frame(&self, place: usize) -> bool {
         let sync_at = |place: usize| self.bytes[place..].starts_with(&SYNC);
         place + FRAME < self.bytes.len() && sync_at(place) && sync_at(place + FRAME)
@@ -124,23 +139,35 @@ impl Whole {
         ))
     }
 
-    /// Feeds it in the given pieces.
+    /// Feeds it in pieces that end at the given places.
+    fn run_to(&self, ends: Vec<usize>, guards: &Guards) -> Result<Ran, String> {
+        self.run(&pieces_to(ends, self.bytes.len()), guards)
+    }
+
     fn run(&self, pieces: &[usize], guards: &Guards) -> Result<Ran, String> {
         let (mut feed, mut handed_out) = (Feed::fresh(), Vec::new());
-        let (mut returned, mut rest) = (Vec::with_capacity(pieces.len()), &self.bytes[..]);
+        let (mut returned, mut start) = (Vec::with_capacity(pieces.len()), 0);
+        let mut reading = Reading::new(self.syncs());
         for &length in pieces {
-            let (piece, later) = rest.split_at(length);
-            let answer = feed.step(piece, guards)?;
+            let end = start + length;
+            let answer = feed.step(&self.bytes[start..end], guards)?;
             let frames = Parts::of(answer).found as usize;
             handed_out.extend_from_slice(feed.frames(frames));
             returned.push(answer);
-            rest = later;
+            reading.go_on(&self.bytes[..end], start);
+            start = end;
         }
         let demanded = self.middle_is_bad();
         if demanded {
             self.check(&handed_out, feed.skipped())?;
+        } else {
+            reading.across.clear();
         }
-        Ok(Ran { returned, demanded })
+        Ok(Ran {
+            returned,
+            demanded,
+            across: reading.across,
+        })
     }
 }
 
@@ -171,6 +198,23 @@ fn frame_edges(whole: &Whole, draw: &mut Draw) -> Vec<usize> {
         .collect()
 }
 
+/// Each sync after its first byte, after its second, or after both; or only each second sync. A piece then has the sync
+/// behind it too, and one call hands out the frame whose far sync is cut and the frame whose near sync that is.
+fn in_syncs(whole: &Whole, turn: usize) -> Vec<usize> {
+    let cuts: &[usize] = [&[1][..], &[2], &[1, 2]][turn % 3];
+    let (first, step) = [(0, 1), (0, 2), (1, 2)][turn / 3 % 3];
+    let syncs = whole.syncs().into_iter().skip(first).step_by(step);
+    syncs
+        .flat_map(|sync| cuts.iter().map(move |cut| sync + cut))
+        .collect()
+}
+
+/// Each frame at the same place, every one of which has its turn.
+fn in_frames(whole: &Whole, turn: usize) -> Vec<usize> {
+    let syncs = whole.syncs().into_iter();
+    syncs.map(|sync| sync + turn % FRAME).collect()
+}
+
 fn random_ends(length: usize, draw: &mut Draw) -> Vec<usize> {
     let most = draw.random.pick(&[20, 600, 2 * PIECE_MOST]);
     let mut ends = vec![draw.random.below(most)];
@@ -179,6 +223,18 @@ fn random_ends(length: usize, draw: &mut Draw) -> Vec<usize> {
         ends.push(next);
     }
     ends
+}
+
+/// A whole stream whose syncs are cut.
+pub fn run_in_syncs(draw: &mut Draw, guards: &Guards) -> Result<Ran, String> {
+    let whole = Whole::drawn(draw);
+    whole.run_to(in_syncs(&whole, draw.turn), guards)
+}
+
+/// A whole stream whose frames are cut.
+pub fn run_in_frames(draw: &mut Draw, guards: &Guards) -> Result<Ran, String> {
+    let whole = Whole::drawn(draw);
+    whole.run_to(in_frames(&whole, draw.turn), guards)
 }
 
 /// A whole stream, in a cutting of which every kind has its turn.
@@ -196,5 +252,5 @@ pub fn run(draw: &mut Draw, guards: &Guards) -> Result<Ran, String> {
         2 => frame_edges(&whole, draw),
         _ => random_ends(length, draw),
     };
-    whole.run(&pieces_to(ends, length), guards)
+    whole.run_to(ends, guards)
 }
