@@ -165,6 +165,38 @@ mistake radio_write.cases 'status ain6 4096 | word 0 | answer 9' 'status ain6 40
 mistake radio_write.cases 'status ain2 4095 | word 2 | answer 0' 'status ain2 4095 | word 2 | answer 9' \
     'expected answer 9; door answer 0; reference answer 0'
 
+# Frames across the join of held bytes and piece (T-06). Claimed are a frame that is missed where its near sync is cut,
+# and one that is taken though the last byte of a cut sync, near or far, is another; a frame that begins with bytes of
+# the piece; held cells that are not cleared, a byte that is lost of those left, and held bytes that a refusal takes; a
+# frame that is passed by, three places skipped where one is settled, and a frame that begins inside another.
+mistake stream.cases '1 held, a frame                         | answer 0 frames 1' \
+    '1 held, a frame                         | answer 0 frames 0' \
+    'expected answer 0 frames 0; door answer 0 frames 1; reference answer 0 frames 1'
+mistake stream.cases ' 2 held, 7E at 2     | input at 2 = 7E   | answer 0 frames 0' \
+    ' 2 held, 7E at 2     | input at 2 = 7E   | answer 0 frames 1' \
+    'expected answer 0 frames 1; door answer 0 frames 0; reference answer 0 frames 0'
+mistake stream.cases '514 held, FF at 514 | input at 514 = FF | answer 0 frames 0' \
+    '514 held, FF at 514 | input at 514 = FF | answer 0 frames 1' \
+    'expected answer 0 frames 1; door answer 0 frames 0; reference answer 0 frames 0'
+mistake_below 2 stream.cases 'skipped 513 total 1028 | held sync_left | output out1' \
+    'skipped 513 total 1028 | held sync_left | output out1 at 0 = 00' 'output[0]: expected 00; door 7F; reference 7F'
+mistake_below 2 stream.cases 'frames 2 skipped 1 total 1028 | held sync_left' \
+    'frames 2 skipped 1 total 1028 | held sync_left at 513 = 7F' 'held[513]: expected 7F; door 00; reference 00'
+mistake_below 1 stream.cases 'held at 414 x 100 = 22' 'held at 413 x 101 = 22' \
+    'held[413]: expected 22; door 11; reference 11'
+mistake stream.cases 'piece of 4097   | piece 4097 of 7F | answer 3 frames 0' \
+    'piece of 4097   | piece 4097 of 7F | answer 3 frames 0 | held nothing' \
+    'held[0]: expected 00; door 11; reference 11'
+mistake_below 1 stream.cases 'pieces 2 of 5 at 1 = 513 | answer 0 frames 1' \
+    'pieces 2 of 5 at 1 = 513 | answer 0 frames 0' \
+    '11 11 11 and a frame, 5 held: expected answer 0 frames 0; door answer 0 frames 1; reference answer 0 frames 1'
+mistake_below 1 stream.cases 'counts held 514 skipped 1 total 515 | held 514 of 11 at 0 = 22 23 24' \
+    'counts held 512 skipped 3 total 515 | held 514 of 11 at 0 = 22 23 24' \
+    'counts held: expected 512; door 514; reference 514'
+mistake_below 1 stream.cases 'piece settled at 510 = 7F 7F | answer 0 frames 2' \
+    'piece settled at 510 = 7F 7F | answer 0 frames 3' \
+    'no frame from 512 or 513 on: expected answer 0 frames 3; door answer 0 frames 2; reference answer 0 frames 2'
+
 # A cell that is claimed to be as it was: in a record, past what a call writes, in a lent frame; and one that
 # is claimed to have changed after a refusal, or to be as it was after one that comes behind frames that were read.
 mistake radio_read.cases '| answer 0 word 1 | status dot 1' '| answer 0 word 1' \
