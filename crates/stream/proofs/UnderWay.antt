@@ -2,7 +2,7 @@
 use mathlib.Core.Path.{_≡_, refl, sym, ap, _∙_, subst}
 use mathlib.Core.Bool.{true, false}
 use mathlib.Core.List.{List, [], _++_, append-nil}
-use Prim.Native.Nat.{ℕ, _+_, _-_, _*_, _<_, _≤_}
+use Prim.Native.Nat.{ℕ, _+_, _-_, _*_, _<_, _≤_, max}
 use native.Mathlib.Nat.{add-zero}
 use native.Mathlib.Omega.{arith}
 use lib.ListN.{length, take, drop, length-append, length-drop, take-append-drop}
@@ -43,7 +43,7 @@ module _ {s output₀ output : List ℕ} {frames place : ℕ} (far : Far s outpu
       ∙ ap (λ r. r andThen reading (drop (place + k) s)) more
 
   -- past places of which none begins a good frame
-  pub far-skips : (next : ℕ) → place ≤ next → next ≤ place + (length s - (place + 514)) → NoneGood s place next → Far s output₀ output frames next
+  pub far-skips : (next : ℕ) → place ≤ next → next ≤ max place (length s - 514) → NoneGood s place next → Far s output₀ output frames next
   far-skips next low high none =
       by-order place next
       (λ some.
@@ -116,7 +116,7 @@ pub record Scanning (held piece output₀ output : List ℕ) (frames place : ℕ
 -- what the next place is, by the contract of `next_good`
 abbrev Next : List ℕ → List ℕ → ℕ → ℕ → Type 0
 Next held piece start next =
-    ((start ≤ next) × (next ≤ start + (length held + length piece - (start + 514))))
+    ((start ≤ next) × (next ≤ max start (length held + length piece - 514)))
     × (((k : ℕ) → start ≤ k → k < next → good (held ++ piece) k ≡ false)
     × (next + 515 ≤ length held + length piece → good (held ++ piece) next ≡ true))
 

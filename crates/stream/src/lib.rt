@@ -60,6 +60,7 @@ impl Stream {
         }
     }
 
+    // Whether the record is one that a reading can have left.
     pub fn sound(self) -> bool
         ensures { λ r. ⌜ r ≡ soundOf self ⌝ }
     {

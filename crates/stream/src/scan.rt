@@ -1,10 +1,11 @@
 // The reading of what is held, followed by the piece, from its place 0.
+use crate::MOST;
 use crate::parts::byte;
 use crate::parts::put_part;
 ghost use mathlib.Core.Path.{_≡_};
 ghost use mathlib.Core.Bool.{true, false, cond, _&&_};
 ghost use mathlib.Core.List.{[], _++_};
-ghost use Prim.Native.Nat.{ℕ, _+_, _-_, _<_, _≤_};
+ghost use Prim.Native.Nat.{ℕ, _+_, _-_, _<_, _≤_, max};
 ghost use lib.Dec.{leb};
 ghost use lib.ListN.{length};
 ghost use Rattle.wire.specs.Sync.{syncAt};
@@ -48,7 +49,7 @@ pub(crate) fn begins(held: &[u8], piece: &[u8], place: usize) -> bool
 // A byte that is not 7F is no byte of a sync, so where it is the third one three places are ruled out.
 pub(crate) fn next_good(held: &[u8], piece: &[u8], start: usize) -> usize
     requires { ⌜ (start ≤ length (now held) + length (now piece)) × (length (now held) + length (now piece) ≤ 4610) ⌝ }
-    ensures { λ r. ⌜ (start ≤ r) × (r ≤ start + (length (now (held .entry)) + length (now (piece .entry)) - (start + 514))) ⌝ }
+    ensures { λ r. ⌜ (start ≤ r) × (r ≤ max start (length (now (held .entry)) + length (now (piece .entry)) - 514)) ⌝ }
     ensures { λ r. ⌜ ((k : ℕ) → start ≤ k → k < r → good (now (held .entry) ++ now (piece .entry)) k ≡ false) ⌝ }
     ensures { λ r. ⌜ (r + 515 ≤ length (now (held .entry)) + length (now (piece .entry)) → good (now (held .entry) ++ now (piece .entry)) r ≡ true) ⌝ }
 {
@@ -98,10 +99,10 @@ pub fn scan(held: &[u8], piece: &[u8], output: &mut [u8]) -> Scanned
     if 514 < held.len() {
         return none();
     }
-    if 4096 < piece.len() {
+    if MOST < piece.len() {
         return none();
     }
-    if output.len() < 4096 {
+    if output.len() < MOST {
         return none();
     }
     read(held, piece, output)

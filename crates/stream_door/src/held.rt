@@ -11,7 +11,7 @@ ghost use Rattle.wire.specs.Every.{allZero};
 ghost use Rattle.stream.specs.Record.{cells};
 
 // What is left from a place on of the held bytes, of which there are `count`, and the piece. Cells past it are
-// cleared where bytes were held; the others are zero as it is.
+// cleared where bytes were held; the others are zero already.
 pub(crate) fn hold(held: &mut [u8], count: usize, piece: &[u8], place: usize)
     requires { ⌜ (count ≤ 514) × (514 ≤ length (now held)) × (allZero (drop count (take 514 (now held))) ≡ true) ⌝ }
     requires { ⌜ (place ≤ count + length (now piece)) × (count + length (now piece) ≤ place + 514) ⌝ }
@@ -21,7 +21,7 @@ pub(crate) fn hold(held: &mut [u8], count: usize, piece: &[u8], place: usize)
     clear(held, count + piece.len() - place, count);
 }
 
-// It stands at the start of the cells.
+// What is left, at the start of the cells, and whatever was there behind it.
 pub(crate) fn lay(held: &mut [u8], count: usize, piece: &[u8], place: usize)
     requires { ⌜ (count ≤ 514) × (514 ≤ length (now held)) ⌝ }
     requires { ⌜ (place ≤ count + length (now piece)) × (count + length (now piece) ≤ place + 514) ⌝ }
