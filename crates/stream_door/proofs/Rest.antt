@@ -1,9 +1,9 @@
 -- Bytes in cells that are lent: a list written over itself from a place on, zeros, and what is left over what was held. Assumes nothing.
-use mathlib.Core.Path.{_≡_, refl, sym, ap, _∙_}
+use mathlib.Core.Path.{_≡_, sym, ap, _∙_}
 use mathlib.Core.Bool.{true}
-use mathlib.Core.List.{List, [], _++_, append-assoc}
+use mathlib.Core.List.{List, _++_, append-assoc}
 use Prim.Native.Nat.{ℕ, _+_, _-_, _<_, _≤_}
-use native.Mathlib.Nat.{zero-add, add-zero}
+use native.Mathlib.Nat.{zero-add}
 use native.Mathlib.Omega.{arith}
 use lib.ListN.{length, getD, set, take, drop, replicate, length-append, length-drop, length-replicate, getD-replicate, take-append-drop, replicate-append-replicate}
 use lib.Seq.{drop-drop, drop-at, getD-take, getD-drop, take-all, take-add, length-take-le, drop-append-le, drop-append-add, sets, sets-eq, length-sets}

@@ -5,7 +5,7 @@ use Prim.Native.Nat.{_+_, _-_}
 use native.Mathlib.Omega.{arith}
 use denote.Ref.{now}
 use lib.ListN.{length, drop, length-append, length-drop}
-use lib.Seq.{take-all, sets}
+use lib.Seq.{take-all}
 use Rattle.stream.proofs.Cells.{sets-zeros}
 use borrow.Author.Needs.{needs}
 use Rattle.stream.proofs.parts.left.Statement.{statement}
