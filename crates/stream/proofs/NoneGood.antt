@@ -17,12 +17,13 @@ pub record NoneGood (s : List ℕ) (start end : ℕ) : Type 0 where
 -- a byte that is not 7F stands in no sync: not as its first byte, its second or its third
 no-sync : (s : List ℕ) (p k : ℕ) → k ≤ p → p ≤ k + 2 → eqb (getD s p 0) 0x7f ≡ false → syncAt s k ≡ false
 no-sync s p k low high other =
+    let at : (q : ℕ) → p ≡ q → eqb (getD s q 0) 0x7f ≡ false = λ q is. sym (ap (λ n. eqb (getD s n 0) 0x7f) is) ∙ other in
     by-order k p
     (λ later.
     by-order (k + 1) p
-    (λ third. let is : p ≡ k + 2 = omega arith in rw (sym (ap (λ q. eqb (getD s q 0) 0x7f) is) ∙ other) (and-false (eqb (getD s k 0) 0x7f && eqb (getD s (k + 1) 0) 0x7f)))
-    (λ second. let is : p ≡ k + 1 = omega arith in rw (sym (ap (λ q. eqb (getD s q 0) 0x7f) is) ∙ other, and-false (eqb (getD s k 0) 0x7f))))
-    (λ first. let is : p ≡ k = omega arith in rw (sym (ap (λ q. eqb (getD s q 0) 0x7f) is) ∙ other))
+    (λ third. rw (at (k + 2) (omega arith)) (and-false (eqb (getD s k 0) 0x7f && eqb (getD s (k + 1) 0) 0x7f)))
+    (λ second. rw (at (k + 1) (omega arith), and-false (eqb (getD s k 0) 0x7f))))
+    (λ first. rw (at k (omega arith)))
 
 pub none-yet : (s : List ℕ) (start : ℕ) → NoneGood s start start
 none-yet s start = record { none = λ k low high. absurd (omega arith) }
