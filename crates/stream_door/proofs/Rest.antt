@@ -65,15 +65,15 @@ module _ (held₀ : List ℕ) (place end : ℕ) where
 
 -- ---- zeros
 
-module _ (held₀ : List ℕ) (place end : ℕ) where
+module _ (place end : ℕ) where
   abbrev pub zeros : List ℕ
   zeros = replicate (end - place) 0
 
   pub zeros-long : length zeros ≡ end - place
   zeros-long = length-replicate (end - place) 0
 
-  pub one-cleared-more : (held : List ℕ) (i : ℕ) → place ≤ i → i < end → Copied place held₀ zeros held (i - place) → Copied place held₀ zeros (set held i 0) (i + 1 - place)
-  one-cleared-more held i low high so-far =
+  pub one-cleared-more : (held₀ held : List ℕ) (i : ℕ) → place ≤ i → i < end → Copied place held₀ zeros held (i - place) → Copied place held₀ zeros (set held i 0) (i + 1 - place)
+  one-cleared-more held₀ held i low high so-far =
       let j = i - place in
       let here : place + j ≡ i = omega arith in
       let next : i + 1 - place ≡ j + 1 = omega arith in

@@ -9,7 +9,7 @@ use Rattle.stream_door.proofs.held.clear.Statement.{statement}
 use Rattle.stream_door.proofs.held.clear.Tie as tie
 
 abbrev Inv-loop : tie.InvT-loop
-Inv-loop held₀ place end i₀ held i = (place ≤ i) × Copied place held₀ (zeros held₀ place end) held (i - place)
+Inv-loop held₀ place end i₀ held i = (place ≤ i) × Copied place held₀ (zeros place end) held (i - place)
 
 abbrev μ-loop : tie.MeasureT-loop
 μ-loop held₀ place end i₀ held i = end - i
@@ -18,7 +18,7 @@ loop-holds : tie.Need-loop-holds Inv-loop μ-loop
 loop-holds c =
     let given = c .args in
     let start : given .place - given .place ≡ 0 = omega arith in
-    (omega arith, rw start (none-copied (given .place) (now (given .held)) _ (omega (arith, zeros-long (now (given .held)) (given .place) (given .end)))))
+    (omega arith, rw start (none-copied (given .place) (now (given .held)) _ (omega (arith, zeros-long (given .place) (given .end)))))
 
 slice-write-held : tie.Need-slice-write-held Inv-loop μ-loop
 slice-write-held c = omega arith
@@ -33,7 +33,7 @@ loop-again : tie.Need-loop-again Inv-loop μ-loop
 loop-again c =
     let turn = c .before in
     let given = turn .before .args in
-    (omega arith, one-cleared-more (now (given .held)) (given .place) (given .end) (turn .loop .held) (turn .loop .i) (omega arith) (omega arith) (turn .loop .inv .1))
+    (omega arith, one-cleared-more (given .place) (given .end) (now (given .held)) (turn .loop .held) (turn .loop .i) (omega arith) (omega arith) (turn .loop .inv .1))
 
 same-length : tie.Need-same-length Inv-loop μ-loop
 same-length c = c .before .loop .inv .1 .long
@@ -41,7 +41,7 @@ same-length c = c .before .loop .inv .1 .long
 returns : tie.Need-returns Inv-loop μ-loop
 returns c =
     let given = c .before .before .args in
-    all-copied _ _ _ _ _ (c .before .loop .inv .1) (omega (arith, zeros-long (now (given .held)) (given .place) (given .end)))
+    all-copied _ _ _ _ _ (c .before .loop .inv .1) (omega (arith, zeros-long (given .place) (given .end)))
 
 pub clear-spec : {M : Type 1} → statement M
 clear-spec =
