@@ -1,12 +1,12 @@
 /* Calls every function of the header with good and refused input, and compares the answer and every lent cell with
  * what document 01 says. Prints a line for each fault, and exits 1 if there is one. */
+#include "report.h"
+
 #include <hpsdr.h>
 
-#include <stdarg.h>
 #include <stdbool.h>
 #include <stddef.h>
 #include <stdint.h>
-#include <stdio.h>
 #include <string.h>
 
 enum { LAST_WORD = 4, LAST_TURN = 10, FIRST_PAYLOAD = 8, NINE_FRAMES = 9 * HPSDR_FRAME };
@@ -55,7 +55,6 @@ static const struct hpsdr_host fresh_host = {.receivers = 1};
 
 static struct desk lent, expected;
 static struct numbers pass;
-static unsigned faults;
 
 static uint32_t layout(void) { return hpsdr_layout(pass.receivers, &lent.row[1], pass.row); }
 static uint32_t status_fresh(void) { return hpsdr_status_fresh(&lent.status[1], pass.status); }
@@ -88,15 +87,6 @@ static uint32_t stream_sound(void) {
 static uint32_t stream_feed(void) {
     return hpsdr_stream_feed(&lent.counts[1], pass.counts, lent.held[1], pass.held, lent.piece[1], pass.piece,
                              lent.output[1], pass.output);
-}
-
-static void report(const char *format, ...) {
-    va_list values;
-    va_start(values, format);
-    vprintf(format, values);
-    va_end(values);
-    putchar('\n');
-    faults++;
 }
 
 /* Reports the first byte of an area that is not as expected. */

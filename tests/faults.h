@@ -1,11 +1,7 @@
-/* A test's count of faults. */
-#include <stdio.h>
-
-static unsigned faults;
+/* A fault by what was tested and its number. */
+#include "report.h"
 
 static void check(int holds, const char *name, const char *what, size_t number) {
-    if (holds)
-        return;
-    printf("%s, %zu: %s\n", name, number, what);
-    faults++;
+    if (!holds)
+        report("%s, %zu: %s", name, number, what);
 }

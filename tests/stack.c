@@ -5,14 +5,14 @@
  * The call is made on a stack of its own, a signal's, which is painted before: the lowest byte that has changed is the
  * deepest. What is set aside and never written is not seen. */
 #define _XOPEN_SOURCE 700 /* sigaltstack */
+#include "report.h"
+
 #include <hpsdr.h>
 
 #include <signal.h>
-#include <stdarg.h>
 #include <stdbool.h>
 #include <stddef.h>
 #include <stdint.h>
-#include <stdio.h>
 #include <string.h>
 
 enum { BOUND = 2048, STACK = 1 << 16, KNOWN = 3000, KNOWN_MOST = KNOWN + 512 };
@@ -60,16 +60,6 @@ static uint8_t stack[STACK];
 static void (*measured)(void);
 static const uint8_t *caller;
 static uint8_t fill;
-static unsigned faults;
-
-static void report(const char *format, ...) {
-    va_list values;
-    va_start(values, format);
-    vprintf(format, values);
-    va_end(values);
-    putchar('\n');
-    faults++;
-}
 
 static void set_out(const struct way *way) {
     memset(&stream, 0, sizeof stream);
