@@ -1,10 +1,10 @@
--- From a scan to the outcome of an accepted call. Assumes nothing.
+-- What a scan reads, and from it to the outcome of an accepted call. Assumes nothing.
 use mathlib.Core.Path.{_≡_, sym, ap, _∙_}
 use mathlib.Core.Bool.{cond, _&&_}
 use mathlib.Core.List.{List, [], _++_}
-use Prim.Native.Nat.{ℕ, _+_, _-_, _≤_}
+use Prim.Native.Nat.{ℕ, _+_, _-_, _<_, _≤_}
 use native.Mathlib.Omega.{arith}
-use borrow.Author.Tests.{le-leb}
+use borrow.Author.Tests.{le-leb, lt-leb}
 use lib.Dec.{leb}
 use lib.ListN.{length, drop, length-drop}
 use Rattle.wire.specs.declared.Answer.the-variants.{Accepted}
@@ -16,10 +16,24 @@ use Rattle.stream.specs.Steps.{Scans}
 use Rattle.stream.specs.declared.Stream.{Stream}
 use Rattle.stream.specs.declared.scan.Scanned.{Scanned}
 
--- a scan of parts that are not too long, to an output that is not too short
-pub scans-all : {r : Scanned} {exit : List ℕ} (held piece output : List ℕ) → length held ≤ 514 → length piece ≤ 4096 → 4096 ≤ length output → Scans (cond (leb (length held) 514 && leb (length piece) 4096 && leb 4096 (length output)) (held ++ piece) []) output r exit → Scans (held ++ piece) output r exit
-scans-all held piece output few short room scans =
-    rw (le-leb (length held) 514 few, le-leb (length piece) 4096 short, le-leb 4096 (length output) room) at scans
+-- what a scan reads: both parts, or nothing where one is too long or the output too short
+module _ (held piece output : List ℕ) where
+  abbrev pub fitting : List ℕ
+  fitting = cond (leb (length held) 514 && leb (length piece) 4096 && leb 4096 (length output)) (held ++ piece) []
+
+  pub held-too-long : 514 < length held → fitting ≡ []
+  held-too-long long = rw (lt-leb (length held) 514 long)
+
+  module _ (few : length held ≤ 514) where
+    pub piece-too-long : 4096 < length piece → fitting ≡ []
+    piece-too-long long = rw (le-leb (length held) 514 few, lt-leb (length piece) 4096 long)
+
+    module _ (short : length piece ≤ 4096) where
+      pub output-too-short : length output < 4096 → fitting ≡ []
+      output-too-short small = rw (le-leb (length held) 514 few, le-leb (length piece) 4096 short, lt-leb 4096 (length output) small)
+
+      pub all-fits : 4096 ≤ length output → fitting ≡ held ++ piece
+      all-fits room = rw (le-leb (length held) 514 few, le-leb (length piece) 4096 short, le-leb 4096 (length output) room)
 
 module _ {s output exit : List ℕ} {r : Scanned} (scans : Scans s output r exit) where
   rest : length s - r .place ≡ length (reading s .left)

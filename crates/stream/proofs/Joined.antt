@@ -1,14 +1,19 @@
--- Two parts as one list, what is held and the piece behind it: a byte of it, and a part of it. Assumes nothing.
+-- Two parts as one list, what is held and the piece behind it: its length, a byte of it, and a part of it. Assumes nothing.
 use mathlib.Core.Path.{_≡_, sym, ap, _∙_}
 use mathlib.Core.List.{List, _++_, append-nil}
 use Prim.Native.Nat.{ℕ, _+_, _-_, _<_, _≤_, min}
 use native.Mathlib.Nat.{add-sub-cancel-left}
 use native.Mathlib.Omega.{arith}
-use lib.ListN.{length, getD, take, drop, length-drop, List·getD-append}
+use lib.ListN.{length, getD, take, drop, length-append, length-drop, List·getD-append}
 use lib.Seq.{take-append-le, take-append-add, drop-append-le, drop-append-add, getD-append-add, length-take-le, take-all, sets, length-sets}
 use Rattle.wire.proofs.Cases.{by-order}
 use Rattle.wire.proofs.Lists.{sets-append}
 use Rattle.stream.proofs.Copies.{written, all-written}
+
+-- as many bytes as are held, and the piece
+pub joined-length : (count : ℕ) (held piece : List ℕ) → count ≤ length held → length (take count held ++ piece) ≡ count + length piece
+joined-length count held piece fits =
+    length-append (take count held) piece ∙ ap (λ n. n + length piece) (length-take-le count held fits)
 
 module _ (held piece : List ℕ) where
   pub byte-held : (p : ℕ) → p < length held → getD held p 0 ≡ getD (held ++ piece) p 0

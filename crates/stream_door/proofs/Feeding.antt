@@ -1,16 +1,15 @@
 -- A call on cells that no test refuses: what it may count on, and that a scan of them is the feed of the record that they are. Assumes nothing.
 use mathlib.Core.Path.{_≡_, refl, sym, ap, _∙_}
-use mathlib.Core.Bool.{cond, _&&_}
 use mathlib.Core.List.{List, [], _∷_, _++_}
 use Prim.Native.Nat.{ℕ, _+_, _-_, _*_, _≤_}
 use native.Mathlib.Nat.{zero-add}
 use native.Mathlib.Omega.{arith}
-use lib.Dec.{leb}
-use lib.ListN.{length, take, drop, length-append}
+use lib.ListN.{length, take, drop}
 use lib.Seq.{length-take-le, take-take, sets}
 use Rattle.wire.specs.declared.Answer.the-variants.{Accepted}
-use Rattle.stream.proofs.Advance.{scans-all, rest-few, advances}
+use Rattle.stream.proofs.Advance.{fitting, all-fits, rest-few, advances}
 use Rattle.stream.proofs.Calls.{Passes, answer, passes, fed}
+use Rattle.stream.proofs.Joined.{joined-length}
 use Rattle.stream.proofs.Records.{whole}
 use Rattle.stream.specs.Feed.{accepted, feedOf}
 use Rattle.stream.specs.Reading.{reading}
@@ -38,18 +37,18 @@ module _ (n : Counts) (held piece output : List ℕ) (room : 514 ≤ length held
   abbrev pub both : List ℕ
   both = take (n .count) held ++ piece
 
-  held-long : length (take (n .count) held) ≡ n .count
-  held-long = length-take-le (n .count) held (omega (arith, all .sound .few))
+  held-fits : n .count ≤ length held
+  held-fits = omega (arith, all .sound .few)
 
   both-long : length both ≡ n .count + length piece
-  both-long = length-append (take (n .count) held) piece ∙ ap (λ k. k + length piece) held-long
+  both-long = joined-length (n .count) held piece held-fits
 
   both-is : both ≡ heldBytes given ++ piece
   both-is = ap (λ l. l ++ piece) (sym (take-take (n .count) 514 held (all .sound .few)))
 
-  module _ {r : Scanned} {exit : List ℕ} (scanned : Scans (cond (leb (length (take (n .count) held)) 514 && leb (length piece) 4096 && leb 4096 (length output)) both []) output r exit) where
+  module _ {r : Scanned} {exit : List ℕ} (scanned : Scans (fitting (take (n .count) held) piece output) output r exit) where
     scans : Scans both output r exit
-    scans = scans-all (take (n .count) held) piece output (omega (arith, held-long, all .sound .few)) (all .short) (all .room) scanned
+    scans = rw (all-fits (take (n .count) held) piece output (omega (arith, length-take-le (n .count) held held-fits, all .sound .few)) (all .short) (all .room)) at scanned
 
     pub found : Found (n .count) (length piece) r
     found =

@@ -12,6 +12,7 @@ use Rattle.wire.proofs.Lists.{sets-append}
 use Rattle.wire.specs.Every.{allZero}
 use Rattle.cells.proofs.Copied.{Copied, one-copied-more}
 use Rattle.stream.proofs.Cells.{drop-replicate}
+use Rattle.stream.proofs.Joined.{joined-length}
 use Rattle.stream.proofs.Copies.{written, all-written, drop-sets}
 use Rattle.stream.specs.Record.{cells}
 
@@ -91,7 +92,7 @@ module _ (size : ℕ) (held piece : List ℕ) (count place : ℕ) (few : count �
   rest-long : length rest ≡ count + length piece - place
   rest-long =
       length-drop place (take count held ++ piece)
-      ∙ ap (λ n. n - place) (length-append (take count held) piece ∙ ap (λ n. n + length piece) held-long)
+      ∙ ap (λ n. n - place) (joined-length count held piece (omega arith))
 
   -- the cells past those that are held
   free : allZero (drop count (take size held)) ≡ true → (m : ℕ) → count ≤ m → m ≤ size → take (size - m) (drop m held) ≡ replicate (size - m) 0

@@ -1,12 +1,13 @@
 -- `Stream::read_on` meets its contract: what a scan found makes the outcome. Assumes nothing.
-use mathlib.Core.Path.{_≡_, sym, ap, _∙_}
+use mathlib.Core.Path.{_≡_, sym, ap, subst}
 use mathlib.Core.List.{List, _++_}
 use Prim.Native.Nat.{ℕ, _+_, _-_, _≤_}
 use native.Mathlib.Omega.{arith}
 use denote.Ref.{now}
-use lib.ListN.{length, length-append}
+use lib.ListN.{length}
 use lib.Seq.{length-take-le}
-use Rattle.stream.proofs.Advance.{scans-all, rest-few, advances}
+use Rattle.stream.proofs.Joined.{joined-length}
+use Rattle.stream.proofs.Advance.{all-fits, rest-few, advances}
 use Rattle.stream.specs.Record.{heldBytes}
 use Rattle.stream.specs.Steps.{Scans}
 use borrow.Author.Needs.{needs}
@@ -29,11 +30,13 @@ abbrev all : tie.After-scan → List ℕ
 all c = heldBytes (given c .args .self) ++ piece c
 
 all-long : (c : tie.After-scan) → length (all c) ≡ given c .args .self .count + length (piece c)
-all-long c = length-append (heldBytes (given c .args .self)) (piece c) ∙ ap (λ n. n + length (piece c)) (held-long (given c))
+all-long c = joined-length (given c .args .self .count) (given c .args .self .held) (piece c) (held-fits (given c))
 
 scans : (c : tie.After-scan) → Scans (all c) (now (given c .args .output)) (c .scan .result) (c .scan .last .1 .1 .0)
 scans c =
-    scans-all (heldBytes (given c .args .self)) (piece c) (now (given c .args .output)) (omega (arith, held-long (given c))) (omega arith) (omega arith) (c .scan .ensures)
+    let call = given c .args in
+    let both = all-fits (heldBytes (call .self)) (now (call .piece)) (now (call .output)) (omega (arith, held-long (given c))) (omega arith) (omega arith) in
+    subst (λ s. Scans s (now (call .output)) (c .scan .result) (c .scan .last .1 .1 .0)) both (c .scan .ensures)
 
 array-share-prefix-held : tie.Need-array-share-prefix-held
 array-share-prefix-held c = held-fits (c .before .before .before)
