@@ -179,6 +179,7 @@ static inline const char *hpsdr_transfer_text(uint32_t got, char text[HPSDR_TEXT
 #define HPSDR_PIECE_MOST 4096   /* bytes of the longest piece that a stream is fed */
 #define HPSDR_OUTPUT_LEAST 4096 /* bytes of the shortest output that a stream is lent: eight frames */
 #define HPSDR_HELD 514          /* bytes that a stream may hold */
+#define HPSDR_INPUT_MOST 65536  /* bytes of the longest input that the plain reader takes */
 
 /* ---- how the samples of 1 to 8 receivers fill a radio frame ---- */
 
@@ -486,6 +487,38 @@ static inline uint32_t hpsdr_feed(struct hpsdr_stream *stream, const uint8_t *pi
                                   uint8_t output[HPSDR_OUTPUT_LEAST]) {
     return hpsdr_stream_feed(&stream->counts, HPSDR_COUNTS_CELLS, stream->held, HPSDR_HELD, piece, length, output,
                              HPSDR_OUTPUT_LEAST);
+}
+
+/* ---- the plain reader ---- */
+
+/* What the plain reader returned, taken apart. */
+struct hpsdr_plain {
+    uint32_t got;     /* what any other call returns: the answer, and found, which is `frames` again */
+    uint32_t frames;  /* frames handed out, 0 to 127 */
+    uint32_t skipped; /* bytes skipped */
+    uint32_t left;    /* bytes left at the end of the input, at most 514 */
+};
+
+/* Reads an input of at most 65,536 bytes at once, from its first byte, by the rule of `hpsdr_stream_feed` and with no
+ * record. The frames handed out stand at the start of the output, 512 bytes each, and the rest of it is as before. The
+ * last `left` bytes of the input are those that a stream would hold. What is returned has 64 bits: the lower 32 are as
+ * every other call's, found being the number of frames, 0 to 127; bits 47 to 32 are the number of bytes skipped, and
+ * bits 63 to 48 the number of bytes left. On a refusal all these are 0. Refusals: LENGTH (an input above 65,536 bytes),
+ * SHORT_BUFFER (an output shorter than the input). */
+uint64_t hpsdr_plain_read(const uint8_t *input, size_t input_length, uint8_t *output, size_t output_length);
+
+static inline struct hpsdr_plain hpsdr_plain_of(uint64_t returned) {
+    struct hpsdr_plain plain;
+    plain.got = (uint32_t)(returned & 0xffffffff);
+    plain.frames = (uint32_t)(returned >> 8 & 0xff);
+    plain.skipped = (uint32_t)(returned >> 32 & 0xffff);
+    plain.left = (uint32_t)(returned >> 48);
+    return plain;
+}
+
+/* The output has as many bytes as the input. */
+static inline struct hpsdr_plain hpsdr_read_at_once(const uint8_t *input, size_t length, uint8_t *output) {
+    return hpsdr_plain_of(hpsdr_plain_read(input, length, output, length));
 }
 
 #ifdef __cplusplus

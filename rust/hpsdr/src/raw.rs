@@ -156,4 +156,13 @@ extern "C" {
         output: *mut u8,
         output_length: usize,
     ) -> u32;
+
+    /// Reads an input of at most 65,536 bytes at once. Bits 31 to 0 are as of every other call, and found is the number of
+    /// frames; bits 47 to 32 are the number of bytes skipped, bits 63 to 48 the number of bytes left.
+    pub fn hpsdr_plain_read(
+        input: *const u8,
+        input_length: usize,
+        output: *mut u8,
+        output_length: usize,
+    ) -> u64;
 }
