@@ -8,8 +8,8 @@ use lib.Seq.{getD-append-add}
 use Rattle.wire.specs.Numbers.{Bytes}
 use Rattle.wire.proofs.Bytes.{bytes-drop, bytes-take}
 use Rattle.wire.proofs.Cases.{by-order}
-use Rattle.stream.specs.Reading.{reading}
-use Rattle.stream.proofs.Readings.{reading-few, reading-good, reading-none, reading-ind}
+use Rattle.reading.specs.Reading.{reading}
+use Rattle.reading.proofs.Readings.{reading-few, reading-good, reading-none, reading-ind}
 
 bytes-append : (x y : List ℕ) → Bytes x → Bytes y → Bytes (x ++ y)
 bytes-append x y one other i =

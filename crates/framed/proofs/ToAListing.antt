@@ -5,10 +5,10 @@ use mathlib.Core.List.{List, map}
 use native.Mathlib.Omega.{arith}
 use Rattle.wire.specs.Lists.{tab}
 use Rattle.wire.specs.Numbers.{Bytes}
-use Rattle.stream.specs.Reading.{reading}
+use Rattle.reading.specs.Reading.{reading}
 use Rattle.stream.specs.Record.{freshOf}
 use Rattle.stream.specs.Run.{Call, AllAccepted, pieces}
-use Rattle.stream.proofs.Readings.{counted}
+use Rattle.reading.proofs.Readings.{counted}
 use Rattle.hexline.specs.Lines.{aFrame, contentOf, lines}
 use Rattle.framed.specs.Hexadecimal.{frameAt}
 use Rattle.framed.specs.Texts.{printedBy}

@@ -6,13 +6,13 @@ use Prim.Native.Nat.{ℕ, _+_, _-_, _*_}
 use native.Mathlib.Omega.{arith}
 use lib.ListN.{length, take, drop, length-append}
 use lib.Seq.{take-at}
-use Rattle.stream.specs.Reading.{reading}
+use Rattle.reading.specs.Reading.{reading}
 use Rattle.stream.specs.Record.{freshOf, heldBytes}
 use Rattle.stream.specs.Run.{Call, called, AllAccepted, pieces, handedOut}
 use Rattle.stream.specs.declared.Stream.{Stream}
 use Rattle.stream.proofs.Calls.{by-outcome}
 use Rattle.stream.proofs.Cut.{however-cut}
-use Rattle.stream.proofs.Readings.{counted}
+use Rattle.reading.proofs.Readings.{counted}
 use Rattle.framed.specs.Hexadecimal.{linesOf}
 use Rattle.framed.specs.Texts.{printedBy}
 use Rattle.framed.proofs.Joined.{no-frames, lines-taken, lines-joined}

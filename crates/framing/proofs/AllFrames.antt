@@ -7,7 +7,7 @@ use native.Mathlib.Nat.{zero-add}
 use lib.ListN.{length, take, drop}
 use lib.Seq.{take-append-seam}
 use Rattle.stream.specs.Feed.{after}
-use Rattle.stream.specs.Reading.{reading}
+use Rattle.reading.specs.Reading.{reading}
 use Rattle.stream.specs.Record.{freshOf}
 use Rattle.stream.specs.Run.{called, AllAccepted, AllFit, pieces, lastOf}
 use Rattle.stream.specs.declared.Stream.{Stream}

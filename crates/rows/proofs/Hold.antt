@@ -6,7 +6,7 @@ use Rattle.layout.specs.Slots.{slots, padding}
 use Rattle.host.specs.Read as host
 use Rattle.host_words.specs.Words.{heard}
 use Rattle.stream.specs.Feed.{feedOf}
-use Rattle.stream.specs.Reading.{reading}
+use Rattle.reading.specs.Reading.{reading}
 use Rattle.stream.specs.Record.{soundOf}
 use Rattle.rows.specs.Rows.{All, rows}
 

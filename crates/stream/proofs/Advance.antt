@@ -8,8 +8,8 @@ use borrow.Author.Tests.{le-leb, lt-leb}
 use lib.Dec.{leb}
 use lib.ListN.{length, drop, length-drop}
 use Rattle.wire.specs.declared.Answer.the-variants.{Accepted}
-use Rattle.stream.proofs.Readings.{counted}
-use Rattle.stream.specs.Reading.{reading}
+use Rattle.reading.proofs.Readings.{counted}
+use Rattle.reading.specs.Reading.{reading}
 use Rattle.stream.specs.Record.{cells}
 use Rattle.stream.specs.Feed.{gave, accepted}
 use Rattle.stream.specs.Steps.{Scans}

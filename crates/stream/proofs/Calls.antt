@@ -14,7 +14,7 @@ use Rattle.wire.specs.declared.Answer.the-variants.{Accepted, BadState, Length,
 use Rattle.wire.proofs.First.{accepts-only}
 use Rattle.stream.proofs.Records.{Sound, sound-told, sound-shown}
 use Rattle.stream.specs.Feed.{Outcome, refusals, refused, accepted, feedOf}
-use Rattle.stream.specs.Reading.{reading}
+use Rattle.reading.specs.Reading.{reading}
 use Rattle.stream.specs.Record.{soundOf, heldBytes}
 use Rattle.stream.specs.declared.Stream.{Stream}
 

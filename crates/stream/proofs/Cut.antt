@@ -4,13 +4,13 @@ use mathlib.Core.List.{List, _++_}
 use Prim.Native.Nat.{ℕ, _≤_}
 use native.Mathlib.Omega.{arith}
 use lib.ListN.{length, length-append, length-take}
-use Rattle.stream.proofs.Append.{reading-append}
+use Rattle.reading.proofs.Append.{reading-append}
 use Rattle.stream.proofs.Calls.{by-outcome}
-use Rattle.stream.proofs.Readings.{counted}
+use Rattle.reading.proofs.Readings.{counted}
 use Rattle.stream.proofs.Runs.{once}
 use Rattle.stream.proofs.Sound.{fresh-kept}
 use Rattle.stream.specs.Feed.{after, feedOf}
-use Rattle.stream.specs.Reading.{_andThen_, reading}
+use Rattle.reading.specs.Reading.{_andThen_, reading}
 use Rattle.stream.specs.Record.{freshOf, heldBytes}
 use Rattle.stream.specs.Run.{Call, AllAccepted, pieces, handedOut, lastOf}
 use Rattle.stream.specs.declared.Stream.{Stream}

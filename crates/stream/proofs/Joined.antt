@@ -8,7 +8,7 @@ use lib.ListN.{length, getD, take, drop, length-append, length-drop, List·getD-
 use lib.Seq.{take-append-le, take-append-add, drop-append-le, drop-append-add, getD-append-add, length-take-le, take-all, sets, length-sets}
 use Rattle.wire.proofs.Cases.{by-order}
 use Rattle.wire.proofs.Lists.{sets-append}
-use Rattle.stream.proofs.Copies.{written, all-written}
+use Rattle.wire.proofs.Copies.{written, all-written}
 
 -- as many bytes as are held, and the piece
 pub joined-length : (count : ℕ) (held piece : List ℕ) → count ≤ length held → length (take count held ++ piece) ≡ count + length piece

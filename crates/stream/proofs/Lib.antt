@@ -1,11 +1,6 @@
--- The laws of the reading, of the record and of a run of calls; then the theorems that a report rests on.
-pub mod Readings
-pub mod Append
-pub mod InARow
-pub mod NoneGood
-pub mod UnderWay
+-- The laws of a scan, of the record and of a run of calls; then the theorems that a report rests on.
+pub mod Scanning
 pub mod Cells
-pub mod Copies
 pub mod Joined
 pub mod Records
 pub mod Advance

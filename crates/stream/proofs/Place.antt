@@ -11,27 +11,12 @@ use Rattle.wire.specs.declared.Answer.the-variants.{Accepted}
 use Rattle.stream.proofs.Calls.{by-outcome, fed, accepted-passes}
 use Rattle.stream.proofs.Cells.{take-cells}
 use Rattle.stream.proofs.Cut.{however-cut}
-use Rattle.stream.proofs.Readings.{good-long, reading-few, reading-good, reading-none, reading-ind, counted}
+use Rattle.reading.proofs.Readings.{reading-few, reading-good, reading-none, reading-ind, counted, placeAfter, left-is}
 use Rattle.stream.specs.Feed.{feedOf}
-use Rattle.stream.specs.Reading.{Reading, reading}
+use Rattle.reading.specs.Reading.{Reading, reading}
 use Rattle.stream.specs.Record.{freshOf, heldBytes}
 use Rattle.stream.specs.Run.{Call, called, AllAccepted, pieces, lastOf}
 use Rattle.stream.specs.declared.Stream.{Stream}
-
--- the place after the frames that a reading hands out and the bytes that it skips
-abbrev placeAfter : List ℕ → ℕ
-placeAfter s = 512 * reading s .frames + reading s .skipped
-
--- what it leaves begins there
-left-is : (s : List ℕ) → reading s .left ≡ drop (placeAfter s) s
-left-is =
-    reading-ind (λ s. reading s .left ≡ drop (placeAfter s) s) (λ s few. rw (reading-few s few))
-    (λ s here rest.
-    let on : 512 + placeAfter (drop 512 s) ≡ 512 * (1 + reading (drop 512 s) .frames) + (0 + reading (drop 512 s) .skipped) = omega arith in
-    rw (reading-good s here) (rest ∙ drop-drop (placeAfter (drop 512 s)) 512 s ∙ ap (λ n. drop n s) on))
-    (λ s enough none rest.
-    let on : 1 + placeAfter (drop 1 s) ≡ 512 * (0 + reading (drop 1 s) .frames) + (1 + reading (drop 1 s) .skipped) = omega arith in
-    rw (reading-none s enough none) (rest ∙ drop-drop (placeAfter (drop 1 s)) 1 s ∙ ap (λ n. drop n s) on))
 
 -- what is skipped stands before the frame: to skip a byte behind it 515 more are wanted
 abbrev Placed : List ℕ → Type 0

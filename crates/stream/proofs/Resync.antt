@@ -7,12 +7,12 @@ use native.Mathlib.Omega.{arith}
 use lib.ListN.{length, take, drop, length-drop}
 use lib.Seq.{drop-drop}
 use Rattle.stream.proofs.Cut.{however-cut}
-use Rattle.stream.proofs.InARow.{frames, skips, frames-in-a-row, skips-in-a-row}
-use Rattle.stream.proofs.Readings.{good-drop, reading-few}
+use Rattle.reading.proofs.InARow.{frames, skips, frames-in-a-row, skips-in-a-row}
+use Rattle.reading.proofs.Readings.{good-drop, reading-few}
 use Rattle.stream.proofs.Runs.{all-accepted}
 use Rattle.stream.proofs.Sound.{fresh-kept}
 use Rattle.stream.specs.Damage.{Damaged}
-use Rattle.stream.specs.Reading.{leaving, _andThen_, reading}
+use Rattle.reading.specs.Reading.{leaving, _andThen_, reading}
 use Rattle.stream.specs.Record.{freshOf}
 use Rattle.stream.specs.Run.{Call, AllAccepted, AllFit, pieces, handedOut, lastOf}
 

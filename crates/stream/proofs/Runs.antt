@@ -6,14 +6,14 @@ use native.Mathlib.Nat.{add-assoc, add-zero}
 use native.Mathlib.Omega.{arith}
 use lib.ListN.{length, drop, replicate, length-append, length-drop, take-append-drop}
 use lib.Seq.{length-take-le, take-at}
-use Rattle.stream.proofs.Append.{reading-append}
+use Rattle.reading.proofs.Append.{reading-append}
 use Rattle.stream.proofs.Calls.{Passes, fed, accepted-passes}
 use Rattle.stream.proofs.Cells.{take-cells}
 use Rattle.wire.proofs.Everywhere.{zeros-are}
-use Rattle.stream.proofs.Readings.{counted, reading-few}
+use Rattle.reading.proofs.Readings.{counted, reading-few}
 use Rattle.stream.proofs.Sound.{Kept, after-kept}
 use Rattle.stream.specs.Feed.{after}
-use Rattle.stream.specs.Reading.{Reading, leaving, _andThen_, reading}
+use Rattle.reading.specs.Reading.{Reading, leaving, _andThen_, reading}
 use Rattle.stream.specs.Record.{heldBytes}
 use Rattle.stream.specs.Run.{Call, AllAccepted, AllFit, pieces, handedOut, lastOf}
 use Rattle.stream.specs.declared.Stream.{Stream}

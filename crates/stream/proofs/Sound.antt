@@ -9,10 +9,10 @@ use lib.Seq.{length-take-le}
 use Rattle.stream.proofs.Calls.{Passes, by-outcome}
 use Rattle.stream.proofs.Cells.{length-cells, drop-cells}
 use Rattle.wire.proofs.Everywhere.{zeros}
-use Rattle.stream.proofs.Readings.{counted}
+use Rattle.reading.proofs.Readings.{counted}
 use Rattle.stream.proofs.Records.{Sound, sound-shown, sound-told}
 use Rattle.stream.specs.Feed.{after, feedOf}
-use Rattle.stream.specs.Reading.{reading}
+use Rattle.reading.specs.Reading.{reading}
 use Rattle.wire.specs.Every.{allZero}
 use Rattle.stream.specs.Record.{freshOf, soundOf, heldBytes}
 use Rattle.stream.specs.declared.Stream.{Stream}

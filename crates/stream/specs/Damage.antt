@@ -4,7 +4,7 @@ use mathlib.Core.Path.{_≡_}
 use mathlib.Core.Bool.{true, false}
 use mathlib.Core.List.{List}
 use lib.ListN.{length}
-use Rattle.stream.specs.Reading.{good}
+use Rattle.reading.specs.Reading.{good}
 
 -- a good frames from place 0, m bytes, and b good frames. The three bytes after the last are sync, since that frame is good.
 pub record Damaged (s : List ℕ) (a m b : ℕ) : Type 0 where

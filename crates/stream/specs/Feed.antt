@@ -7,7 +7,7 @@ use lib.ListN.{length, drop}
 use Rattle.wire.specs.Answers.{Test, _gives_, first, accepts}
 use Rattle.wire.specs.declared.Answer.{Answer}
 use Rattle.wire.specs.declared.Answer.the-variants.{Accepted, BadState, Length, ShortBuffer, StreamFull}
-use Rattle.stream.specs.Reading.{Reading, reading}
+use Rattle.reading.specs.Reading.{Reading, reading}
 use Rattle.stream.specs.Record.{cells, soundOf, heldBytes}
 use Rattle.stream.specs.declared.Stream.{Stream}
 use Rattle.stream.specs.declared.Fed.{Fed}

@@ -1,4 +1,3 @@
-pub mod Reading
 pub mod Record
 pub mod Feed
 pub mod Run

@@ -3,7 +3,6 @@
 //
 // A `Stream` is a value. Start with `Stream::fresh()`, and give each record that `feed` returns to
 // the next call, with the next piece. A refusal hands the record and the output back as they were.
-pub mod bytes;
 mod parts;
 pub mod scan;
 
@@ -12,7 +11,7 @@ ghost use mathlib.Core.Path.{_≡_};
 ghost use mathlib.Core.List.{_++_};
 ghost use lib.ListN.{length};
 ghost use Rattle.wire.specs.Answers.{first};
-ghost use Rattle.stream.specs.Reading.{reading};
+ghost use Rattle.reading.specs.Reading.{reading};
 ghost use Rattle.stream.specs.Record.{freshOf, soundOf, heldBytes};
 ghost use Rattle.stream.specs.Feed.{gave, refusals, accepted, feedOf};
 ghost use Rattle.stream.specs.Steps.{Ready};

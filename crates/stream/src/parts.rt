@@ -1,5 +1,5 @@
 // What is held, followed by the piece, as one list of bytes in two parts that stay where they are.
-use crate::bytes::put;
+use wire::copy::put;
 ghost use mathlib.Core.Path.{_≡_};
 ghost use mathlib.Core.List.{_++_};
 ghost use Prim.Native.Nat.{_+_, _≤_, _<_, min};

@@ -9,7 +9,7 @@ ghost use Prim.Native.Nat.{ℕ, _+_, _-_, _<_, _≤_, max};
 ghost use lib.Dec.{leb};
 ghost use lib.ListN.{length};
 ghost use Rattle.wire.specs.Sync.{syncAt};
-ghost use Rattle.stream.specs.Reading.{good};
+ghost use Rattle.reading.specs.Reading.{good};
 ghost use Rattle.stream.specs.Steps.{Scans};
 
 // The frames handed out, the bytes skipped, and the place of what is left.

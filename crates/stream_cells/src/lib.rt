@@ -3,7 +3,7 @@
 // No public function here has a `requires`: where there are too few cells nothing is written, and what is
 // made of them is a fresh record.
 use stream::Stream;
-use stream::bytes::put;
+use wire::copy::put;
 ghost use mathlib.Core.Path.{_≡_};
 ghost use Prim.Native.Nat.{_≤_};
 ghost use lib.ListN.{length, take};

@@ -12,7 +12,7 @@ use Rattle.stream.proofs.Calls.{Passes, answer, passes, fed}
 use Rattle.stream.proofs.Joined.{joined-length}
 use Rattle.stream.proofs.Records.{whole}
 use Rattle.stream.specs.Feed.{accepted, feedOf}
-use Rattle.stream.specs.Reading.{reading}
+use Rattle.reading.specs.Reading.{reading}
 use Rattle.stream.specs.Record.{cells, heldBytes}
 use Rattle.stream.specs.Steps.{Scans}
 use Rattle.stream.specs.declared.Counts.{Counts}

@@ -13,7 +13,7 @@ use Rattle.wire.specs.Every.{allZero}
 use Rattle.cells.proofs.Copied.{Copied, one-copied-more}
 use Rattle.stream.proofs.Cells.{drop-replicate}
 use Rattle.stream.proofs.Joined.{joined-length}
-use Rattle.stream.proofs.Copies.{written, all-written, drop-sets}
+use Rattle.wire.proofs.Copies.{written, all-written, drop-sets}
 use Rattle.stream.specs.Record.{cells}
 
 -- a list written over with what is there stays as it is

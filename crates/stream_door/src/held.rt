@@ -1,6 +1,6 @@
 // The bytes that are held, in the cells where they are lent: what is left of them and of the piece takes their
 // place.
-use stream::bytes::put;
+use wire::copy::put;
 ghost use mathlib.Core.Path.{_≡_};
 ghost use mathlib.Core.Bool.{true};
 ghost use mathlib.Core.List.{_++_};

@@ -14,4 +14,5 @@ pub mod Causes
 pub mod Lists
 pub mod Fill
 pub mod Laid
+pub mod Copies
 pub mod Settled

@@ -1,7 +1,8 @@
-// What every frame of the protocol is made of: numbers and their bytes, fields of bits, the sync
-// bytes, and the answers that the calls of this library give.
+// What every frame of the protocol is made of: numbers and their bytes, copies of bytes, fields of bits,
+// the sync bytes, and the answers that the calls of this library give.
 //
 // No function here has a `requires`: each takes what it is given. `specs/` has what each one means.
+pub mod copy;
 pub mod fields;
 pub mod numbers;
 pub mod places;

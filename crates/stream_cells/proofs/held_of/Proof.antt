@@ -5,7 +5,7 @@ use denote.Ref.{now}
 use lib.ListN.{take, replicate}
 use lib.Seq.{length-take-le}
 use Rattle.wire.proofs.Lists.{sets-all}
-use Rattle.stream.proofs.Copies.{all-written}
+use Rattle.wire.proofs.Copies.{all-written}
 use borrow.Author.Needs.{needs}
 use Rattle.stream_cells.proofs.held_of.Statement.{statement}
 use Rattle.stream_cells.proofs.held_of.Tie as tie

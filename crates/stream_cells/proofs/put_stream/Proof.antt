@@ -6,7 +6,7 @@ use native.Mathlib.Omega.{arith}
 use borrow.Author.Tests.{not-true, not-false}
 use denote.Ref.{now}
 use lib.ListN.{length}
-use Rattle.stream.proofs.Copies.{all-written}
+use Rattle.wire.proofs.Copies.{all-written}
 use Rattle.stream_cells.specs.Stream.{lent}
 use Rattle.stream_cells.proofs.Cases.{enough, put-few, put-room}
 use borrow.Author.Needs.{needs}

@@ -7,7 +7,7 @@ use borrow.Author.Tests.{ne-eqb}
 use denote.Ref.{now}
 use lib.Dec.{eqb}
 use lib.ListN.{length}
-use Rattle.stream.proofs.NoneGood.{NoneGood, none-yet, one-more, three-more, fewer}
+use Rattle.reading.proofs.NoneGood.{NoneGood, none-yet, one-more, three-more, fewer}
 use Rattle.stream.proofs.scan.next_good.Statement.{statement}
 use Rattle.stream.proofs.scan.next_good.Tie as tie
 

@@ -3,7 +3,7 @@ use Prim.Native.Nat.{_+_, _-_}
 use native.Mathlib.Omega.{arith}
 use denote.Ref.{now}
 use lib.ListN.{length}
-use Rattle.stream.proofs.UnderWay.{Scanning, scan-start, scan-more, scan-end}
+use Rattle.stream.proofs.Scanning.{Scanning, scan-start, scan-more, scan-end}
 use Rattle.stream.proofs.scan.read.Statement.{statement}
 use Rattle.stream.proofs.scan.read.Tie as tie
 

@@ -2,7 +2,7 @@
 use native.Mathlib.Omega.{arith}
 use denote.Ref.{now}
 use Rattle.stream.proofs.Advance.{held-too-long, piece-too-long, output-too-short, all-fits}
-use Rattle.stream.proofs.UnderWay.{scans-nothing}
+use Rattle.stream.proofs.Scanning.{scans-nothing}
 use borrow.Author.Needs.{needs}
 use Rattle.stream.proofs.scan.scan.Statement.{statement}
 use Rattle.stream.proofs.scan.scan.Tie as tie

@@ -1,6 +1,6 @@
--- The reading of a list of bytes: its three cases by name, induction over them, and its counts.
+-- The reading of a list of bytes: its three cases by name, induction over them, its counts, and where what is left begins.
 -- Nothing but this file looks at how the recursion is made. Assumes nothing.
-use mathlib.Core.Path.{_≡_, refl, sym, _∙_}
+use mathlib.Core.Path.{_≡_, refl, sym, ap, _∙_}
 use mathlib.Core.Bool.{true, false, true≢false, and-false}
 use mathlib.Core.List.{List, _++_, append-assoc}
 use Prim.Native.Nat.{ℕ, zero, suc, _+_, _*_, _<_, _≤_, min}
@@ -14,7 +14,7 @@ use Rattle.wire.proofs.Cases.{by-test, by-order}
 use Rattle.wire.proofs.SyncCases.{past-end}
 use Rattle.wire.specs.Sync.{syncAt}
 use Rattle.wire.proofs.SyncCases.{sync-append, sync-drop}
-use Rattle.stream.specs.Reading.{good, Reading, leaving, frame, skip, _andThen_, step, steps, reading}
+use Rattle.reading.specs.Reading.{good, Reading, leaving, frame, skip, _andThen_, step, steps, reading}
 
 -- ---- a good frame
 
@@ -117,3 +117,20 @@ counted =
     rw (reading-good s here)
     (omega (arith, length-drop 512 s, length-take-le 512 s (omega arith), length-append (take 512 s) (reading (drop 512 s) .handed))))
     (λ s enough none rest. rw (reading-none s enough none) (omega (arith, length-drop 1 s)))
+
+-- ---- what is left
+
+-- the place after the frames that a reading hands out and the bytes that it skips
+abbrev pub placeAfter : List ℕ → ℕ
+placeAfter s = 512 * reading s .frames + reading s .skipped
+
+-- what it leaves begins there
+pub left-is : (s : List ℕ) → reading s .left ≡ drop (placeAfter s) s
+left-is =
+    reading-ind (λ s. reading s .left ≡ drop (placeAfter s) s) (λ s few. rw (reading-few s few))
+    (λ s here rest.
+    let on : 512 + placeAfter (drop 512 s) ≡ 512 * (1 + reading (drop 512 s) .frames) + (0 + reading (drop 512 s) .skipped) = omega arith in
+    rw (reading-good s here) (rest ∙ drop-drop (placeAfter (drop 512 s)) 512 s ∙ ap (λ n. drop n s) on))
+    (λ s enough none rest.
+    let on : 1 + placeAfter (drop 1 s) ≡ 512 * (0 + reading (drop 1 s) .frames) + (1 + reading (drop 1 s) .skipped) = omega arith in
+    rw (reading-none s enough none) (rest ∙ drop-drop (placeAfter (drop 1 s)) 1 s ∙ ap (λ n. drop n s) on))

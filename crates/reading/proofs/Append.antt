@@ -5,8 +5,8 @@ use Prim.Native.Nat.{ℕ}
 use native.Mathlib.Omega.{arith}
 use lib.ListN.{take, drop, length-append}
 use lib.Seq.{take-append-le, drop-append-le}
-use Rattle.stream.proofs.Readings.{good-long, good-append, leaving-then, then-then, reading-few, reading-good, reading-none, reading-ind}
-use Rattle.stream.specs.Reading.{good, Reading, frame, skip, _andThen_, reading}
+use Rattle.reading.proofs.Readings.{good-long, good-append, leaving-then, then-then, reading-few, reading-good, reading-none, reading-ind}
+use Rattle.reading.specs.Reading.{good, Reading, frame, skip, _andThen_, reading}
 
 -- what the reading of x hands out and skips, and then what it left is read with y after it
 abbrev Cuts : List ℕ → List ℕ → Type 0

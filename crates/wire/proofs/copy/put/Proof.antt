@@ -1,4 +1,4 @@
--- `bytes::put` meets its contract: after i turns the first i bytes are copied. Assumes nothing.
+-- `copy::put` meets its contract: after i turns the first i bytes are copied. Assumes nothing.
 use mathlib.Core.Path.{_≡_, refl}
 use Prim.Native.Nat.{_-_, _≤_}
 use native.Mathlib.Omega.{arith}
@@ -7,9 +7,9 @@ use borrow.Author.Needs.{needs}
 use denote.Ref.{now}
 use lib.ListN.{length, length-set}
 use lib.Seq.{sets-eq, take-length, paste, paste-zero, paste-suc}
-use Rattle.stream.proofs.Copies.{all-written, none-written}
-use Rattle.stream.proofs.bytes.put.Statement.{statement}
-use Rattle.stream.proofs.bytes.put.Tie as tie
+use Rattle.wire.proofs.Copies.{all-written, none-written}
+use Rattle.wire.proofs.copy.put.Statement.{statement}
+use Rattle.wire.proofs.copy.put.Tie as tie
 
 abbrev Inv-loop : tie.InvT-loop
 Inv-loop to₀ place from i₀ to i = (to ≡ paste to₀ place from i) × (i ≤ length from) × (length to ≡ length to₀)

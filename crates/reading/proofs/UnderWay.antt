@@ -1,4 +1,4 @@
--- A reading under way: what the loop of a scan keeps true from place to place. Assumes nothing.
+-- A reading under way: what the loop of a reader keeps true from place to place. Assumes nothing.
 use mathlib.Core.Path.{_≡_, refl, sym, ap, _∙_, subst}
 use mathlib.Core.Bool.{true, false}
 use mathlib.Core.List.{List, [], _++_, append-nil}
@@ -8,12 +8,11 @@ use native.Mathlib.Omega.{arith}
 use lib.ListN.{length, take, drop, length-append, length-drop, take-append-drop}
 use lib.Seq.{drop-drop, length-take-le, sets, length-sets}
 use Rattle.wire.proofs.Cases.{by-order}
-use Rattle.stream.proofs.Copies.{take-sets, drop-sets}
-use Rattle.stream.proofs.InARow.{skips, skips-in-a-row}
-use Rattle.stream.proofs.NoneGood.{NoneGood}
-use Rattle.stream.proofs.Readings.{good-long, good-drop, leaving-then, reading-on, reading-few, reading-good}
-use Rattle.stream.specs.Reading.{good, Reading, leaving, frame, _andThen_, reading}
-use Rattle.stream.specs.Steps.{Scans}
+use Rattle.wire.proofs.Copies.{take-sets, drop-sets}
+use Rattle.reading.proofs.InARow.{skips, skips-in-a-row}
+use Rattle.reading.proofs.NoneGood.{NoneGood, none-yet, one-more}
+use Rattle.reading.proofs.Readings.{good-long, good-drop, leaving-then, reading-on, reading-few, reading-good}
+use Rattle.reading.specs.Reading.{good, Reading, leaving, frame, _andThen_, reading}
 
 -- what has been read at a place: the frames stand at the start of the output, and what is no frame was skipped
 abbrev soFar : List ℕ → ℕ → ℕ → Reading
@@ -27,6 +26,13 @@ pub record Far (s output₀ output : List ℕ) (frames place : ℕ) : Type 0 whe
   pub remainder : drop (512 * frames) output ≡ drop (512 * frames) output₀
   pub as-long : length output ≡ length output₀
   pub room : 512 * frames ≤ length output
+
+-- and at its end: the frames at the start of the output are all there are, and what is left begins at the place
+pub record AllRead (s output₀ output : List ℕ) (frames place : ℕ) : Type 0 where
+  pub frames-is : frames ≡ reading s .frames
+  pub skipped-is : place - 512 * frames ≡ reading s .skipped
+  pub left-is : drop place s ≡ reading s .left
+  pub output-is : output ≡ reading s .handed ++ drop (length (reading s .handed)) output₀
 
 pub far-start : (s output : List ℕ) → Far s output output 0 0
 far-start s output =
@@ -65,6 +71,10 @@ module _ {s output₀ output : List ℕ} {frames place : ℕ} (far : Far s outpu
       })
       (λ stays. let is : place ≡ next = omega arith in subst (Far s output₀ output frames) is far)
 
+  -- past one of them
+  pub far-skip : good s place ≡ false → place + 515 ≤ length s → Far s output₀ output frames (place + 1)
+  far-skip none enough = far-skips (place + 1) (omega arith) (omega arith) (one-more (none-yet s place) none)
+
   -- the bytes from the place to 512 past it, behind those that stand at the start of the output
   pub far-good : good s place ≡ true → 512 * frames + 512 ≤ length output → Far s output₀ (sets output (512 * frames) (take 512 (drop place s))) (frames + 1) (place + 512)
   far-good good-here room =
@@ -91,7 +101,8 @@ module _ {s output₀ output : List ℕ} {frames place : ℕ} (far : Far s outpu
         room = omega (arith, length-sets output (512 * frames) bytes);
       }
 
-  pub far-end : length s < place + 515 → Scans s output₀ (record { frames = frames; skipped = place - 512 * frames; place = place }) output
+  -- where fewer than 515 bytes remain
+  pub far-end : length s < place + 515 → AllRead s output₀ output frames place
   far-end few =
       let done : reading s ≡ soFar output frames place andThen leaving (drop place s) =
       far .so-far ∙ rw (reading-few (drop place s) (rw (length-drop place s) (omega arith))) in
@@ -99,45 +110,6 @@ module _ {s output₀ output : List ℕ} {frames place : ℕ} (far : Far s outpu
       record {
         frames-is = rw done (omega arith);
         skipped-is = rw done (omega arith);
-        in-list = far .in-list;
-        place-is = omega (arith, far .whole);
         left-is = rw done;
         output-is = rw (done, append-nil (take (512 * frames) output), long, ← far .remainder) (sym (take-append-drop (512 * frames) output));
       }
-
--- a scan of two parts under way: its place begins a good frame, unless fewer than 515 bytes remain
-pub record Scanning (held piece output₀ output : List ℕ) (frames place : ℕ) : Type 0 where
-  pub far : Far (held ++ piece) output₀ output frames place
-  pub good-here : place + 515 ≤ length held + length piece → good (held ++ piece) place ≡ true
-  pub in-parts : place ≤ length held + length piece
-  pub whole : 512 * frames ≤ place
-  pub as-long : length output ≡ length output₀
-
--- what the next place is, by the contract of `next_good`
-abbrev Next : List ℕ → List ℕ → ℕ → ℕ → Type 0
-Next held piece start next =
-    ((start ≤ next) × (next ≤ max start (length held + length piece - 514)))
-    × (((k : ℕ) → start ≤ k → k < next → good (held ++ piece) k ≡ false)
-    × (next + 515 ≤ length held + length piece → good (held ++ piece) next ≡ true))
-
-module _ (held piece : List ℕ) where
-  long : length (held ++ piece) ≡ length held + length piece
-  long = length-append held piece
-
-  goes-on : {output₀ output : List ℕ} {frames place : ℕ} (next : ℕ) → Far (held ++ piece) output₀ output frames place → Next held piece place next → Scanning held piece output₀ output frames next
-  goes-on next far found =
-      let there = far-skips far next (found .0 .0) (rw long (found .0 .1)) (record { none = found .1 .0 }) in
-      record { far = there; good-here = found .1 .1; in-parts = rw (← long) (there .in-list); whole = there .whole; as-long = there .as-long }
-
-  module _ {output₀ output : List ℕ} {frames place : ℕ} (scanning : Scanning held piece output₀ output frames place) where
-    pub scan-more : (next : ℕ) → place + 515 ≤ length held + length piece → 512 * frames + 512 ≤ length output → Next held piece (place + 512) next → Scanning held piece output₀ (sets output (512 * frames) (take 512 (drop place (held ++ piece)))) (frames + 1) next
-    scan-more next enough room = goes-on next (far-good (scanning .far) (scanning .good-here enough) room)
-
-    pub scan-end : length held + length piece < place + 515 → Scans (held ++ piece) output₀ (record { frames = frames; skipped = place - 512 * frames; place = place }) output
-    scan-end few = far-end (scanning .far) (rw long few)
-
-  pub scan-start : (output : List ℕ) (next : ℕ) → Next held piece 0 next → Scanning held piece output output 0 next
-  scan-start output next = goes-on next (far-start (held ++ piece) output)
-
-pub scans-nothing : (output : List ℕ) → Scans [] output (record { frames = 0; skipped = 0; place = 0 }) output
-scans-nothing output = far-end (far-start [] output) (omega arith)

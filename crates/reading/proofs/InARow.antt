@@ -6,8 +6,8 @@ use Prim.Native.Nat.{ℕ, zero, suc, _+_, _*_, _<_, _≤_}
 use native.Mathlib.Omega.{arith}
 use lib.ListN.{length, take, drop, length-drop}
 use lib.Seq.{take-add}
-use Rattle.stream.proofs.Readings.{good-drop, leaving-then, reading-on, reading-good, reading-none}
-use Rattle.stream.specs.Reading.{good, Reading, frame, skip, _andThen_, reading}
+use Rattle.reading.proofs.Readings.{good-drop, leaving-then, reading-on, reading-good, reading-none}
+use Rattle.reading.specs.Reading.{good, Reading, frame, skip, _andThen_, reading}
 
 abbrev pub frames : ℕ → List ℕ → Reading
 frames n s = record { frames = n; handed = take (512 * n) s; skipped = 0; left = [] }

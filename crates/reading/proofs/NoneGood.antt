@@ -8,7 +8,7 @@ use lib.Dec.{eqb}
 use lib.ListN.{getD}
 use Rattle.wire.proofs.Cases.{by-order}
 use Rattle.wire.specs.Sync.{syncAt}
-use Rattle.stream.specs.Reading.{good}
+use Rattle.reading.specs.Reading.{good}
 
 -- none from start on, and before end
 pub record NoneGood (s : List ℕ) (start end : ℕ) : Type 0 where

@@ -1,0 +1,6 @@
+-- The laws of the reading, by subject.
+pub mod Readings
+pub mod Append
+pub mod InARow
+pub mod NoneGood
+pub mod UnderWay
