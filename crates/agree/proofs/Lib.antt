@@ -1,0 +1,2 @@
+-- T-10: the plain reader held against the quick one.
+pub mod PlainAndQuick
