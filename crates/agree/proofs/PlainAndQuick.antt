@@ -1,6 +1,6 @@
 -- T-10: on each input that the plain reader accepts, it and a fresh stream agree, however the input is cut. Assumes nothing.
 use mathlib.Core.Path.{_≡_, refl, sym, ap, _∙_, subst}
-use mathlib.Core.List.{List, [], _∷_, _++_}
+use mathlib.Core.List.{List, [], _∷_}
 use Prim.Native.Nat.{ℕ, zero, suc, _+_, _-_, _*_, _≤_}
 use native.Mathlib.Nat.{zero-add}
 use native.Mathlib.Omega.{arith}
@@ -9,10 +9,10 @@ use lib.Seq.{take-at, take-add, take-all}
 use Rattle.wire.specs.declared.Answer.the-variants.{Accepted}
 use Rattle.reading.specs.Reading.{reading}
 use Rattle.reading.proofs.Readings.{counted, placeAfter, left-is}
-use Rattle.plain.specs.Plain.{Outcome, accepted, plainOf}
-use Rattle.plain.proofs.Cases.{Passes, reads, accepted-passes}
+use Rattle.plain.specs.Plain.{accepted, plainOf}
+use Rattle.plain.proofs.Cases.{reads, accepted-passes}
 use Rattle.stream.specs.Record.{freshOf, heldBytes}
-use Rattle.stream.specs.Run.{Call, AllAccepted, AllFit, pieces, lastOf}
+use Rattle.stream.specs.Run.{Call, AllAccepted, AllFit, pieces}
 use Rattle.stream.specs.declared.Stream.{Stream}
 use Rattle.stream.proofs.Cells.{take-cells}
 use Rattle.stream.proofs.Cut.{however-cut}
