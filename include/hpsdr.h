@@ -1,5 +1,6 @@
 /* Frames of the HPSDR USB Data Protocol 1.58, read and written: those that a radio sends for one to eight
- * receivers, those that a host sends to it, and the reader that finds radio frames in a stream of bytes.
+ * receivers, those that a host sends to it, and two readers that find radio frames among bytes: one takes a stream
+ * piece by piece, the other an input at once.
  *
  * Every call takes what it is given, checks for itself, and works or gives one of nine refusals, the first
  * that holds in the order of their numbers. After a refusal every buffer and record that was lent holds
@@ -8,12 +9,13 @@
  * own.
  *
  * Each call has a full form and below it a short one. Begin with the short forms: `hpsdr_read`, `hpsdr_read_transfer`,
- * `hpsdr_write`, `hpsdr_hear`, `hpsdr_build_next`, `hpsdr_feed`, and the `_init` ones for their records. They take a
- * record by its pointer, and arrays that are whole: a frame of HPSDR_FRAME bytes, audio of HPSDR_AUDIO numbers, an
- * output of HPSDR_OUTPUT_LEAST bytes. They trust the caller for these sizes only, so they never answer SHORT_BUFFER,
- * and LENGTH only for the length of a piece or of a transfer, which they are given; all else they check as the full
- * forms do. The full forms take a length after each pointer and check it too: they are for lengths that come from
- * elsewhere. `examples/peaks.c` is a whole program.
+ * `hpsdr_write`, `hpsdr_hear`, `hpsdr_build_next`, `hpsdr_feed`, `hpsdr_read_at_once`, and the `_init` ones for their
+ * records. They take a record by its pointer, and arrays that are whole: a frame of HPSDR_FRAME bytes, audio of
+ * HPSDR_AUDIO numbers, an output of HPSDR_OUTPUT_LEAST bytes, or of as many as the input of `hpsdr_read_at_once` has.
+ * They trust the caller for these sizes only, so they never answer SHORT_BUFFER, and LENGTH only for the length of a
+ * piece, of a transfer or of an input, which they are given; all else they check as the full forms do. The full forms
+ * take a length after each pointer and check it too: they are for lengths that come from elsewhere. `examples/peaks.c`
+ * is a whole program.
  *
  * In both forms a pointer is not null and is aligned for its type, even where the length after it is 0; what it
  * points at is the caller's for the time of the call, as many elements as the form says or as are given, and what a
@@ -33,7 +35,8 @@
  * are the place, beside the three refusals that have one: NO_SYNC and PADDING name a byte of the frame, counted from 0,
  * and RESERVED an `enum hpsdr_cause`, which is a code or bit of a host frame or a level of a radio frame; beside every
  * other answer they are 0. So an accepted call that found something does not return 0, and a refusal is not always its
- * number alone: ask `hpsdr_answer_of`.
+ * number alone: ask `hpsdr_answer_of`. One call, `hpsdr_plain_read`, returns two counts above these 32 bits:
+ * `hpsdr_plain_of` takes them apart.
  */
 #ifndef HPSDR_H
 #define HPSDR_H
@@ -89,8 +92,11 @@ static inline const char *hpsdr_answer_sentence(uint32_t answer) {
     case HPSDR_BAD_STATE: return "the stream record is unsound, the turn is above 10, or cells hold no record";
     case HPSDR_BAD_COUNT: return "the receiver count is not 1 to 8";
     case HPSDR_LENGTH:
-        return "the frame is not 512 bytes, the transfer is not 1 to 8 times 512, or the piece is above 4,096";
-    case HPSDR_SHORT_BUFFER: return "a sample slice is shorter than needed, or the output is under 4,096 bytes";
+        return "the frame is not 512 bytes, the transfer is not 1 to 8 times 512, the piece is above 4,096, "
+               "or the input is above 65,536";
+    case HPSDR_SHORT_BUFFER:
+        return "a sample slice is shorter than needed, a stream's output is under 4,096 bytes, "
+               "or the output is shorter than the input";
     case HPSDR_STREAM_FULL: return "more than 2^48 bytes would have been fed";
     case HPSDR_NO_SYNC: return "the frame's first three bytes are not 7F 7F 7F";
     case HPSDR_PADDING: return "a padding byte is not 0";
@@ -136,9 +142,10 @@ static inline const char *hpsdr_cause_sentence(uint32_t cause) {
 
 #define HPSDR_TEXT 128 /* bytes that have room for every text of the next two */
 
-/* What an answer says with its place, for people to read: of `got` itself, as any call but a transfer returned it. It
- * is written to `text`, which is given back. NO_SYNC is "sync byte 1 is not 7F", PADDING is "padding byte 509 is not
- * zero", RESERVED is its cause's sentence, and every other answer is its `hpsdr_answer_sentence`. */
+/* What an answer says with its place, for people to read: of `got` itself, as any call but a transfer returned it, or
+ * `struct hpsdr_plain` has it. It is written to `text`, which is given back. NO_SYNC is "sync byte 1 is not 7F",
+ * PADDING is "padding byte 509 is not zero", RESERVED is its cause's sentence, and every other answer is its
+ * `hpsdr_answer_sentence`. */
 static inline const char *hpsdr_refusal_text(uint32_t got, char text[HPSDR_TEXT]) {
     const unsigned place = (unsigned)hpsdr_place_in(got);
     switch (hpsdr_answer_of(got)) {
@@ -491,26 +498,37 @@ static inline uint32_t hpsdr_feed(struct hpsdr_stream *stream, const uint8_t *pi
 
 /* ---- the plain reader ---- */
 
-/* What the plain reader returned, taken apart. */
+/* What the plain reader returned, taken apart. 512 * frames + skipped + left is the length of an accepted input; on a
+ * refusal all three are 0. */
 struct hpsdr_plain {
-    uint32_t got;     /* what any other call returns: the answer, and found, which is `frames` again */
+    uint32_t got;     /* as any other call returns it: the answer, and found, which is `frames` again */
     uint32_t frames;  /* frames handed out, 0 to 127 */
     uint32_t skipped; /* bytes skipped */
     uint32_t left;    /* bytes left at the end of the input, at most 514 */
 };
 
-/* Reads an input of at most 65,536 bytes at once, from its first byte, by the rule of `hpsdr_stream_feed` and with no
- * record. The frames handed out stand at the start of the output, 512 bytes each, and the rest of it is as before. The
- * last `left` bytes of the input are those that a stream would hold. What is returned has 64 bits: the lower 32 are as
- * every other call's, found being the number of frames, 0 to 127; bits 47 to 32 are the number of bytes skipped, and
- * bits 63 to 48 the number of bytes left. On a refusal all these are 0. Refusals: LENGTH (an input above 65,536 bytes),
- * SHORT_BUFFER (an output shorter than the input). */
+/* Reads an input of at most 65,536 bytes at once, place by place from its first byte, by the rule of
+ * `hpsdr_stream_feed`. It has no record and holds no bytes: where fewer than 515 are left, it ends. The frames handed
+ * out stand at the start of the output, 512 bytes each, and the rest of it is as before. Refusals: LENGTH (an input
+ * above 65,536 bytes), SHORT_BUFFER (an output shorter than the input).
+ *
+ * What is returned. Bits 31 to 0 are as every other call's; found is the number of frames, 0 to 127. Bits 47 to 32 are
+ * the number of bytes skipped, and bits 63 to 48 the number of bytes left, at most 514. A refusal is its number alone.
+ *
+ * What it is for. It is written to be read in a sitting, and to be held against the stream reader, whose code is harder
+ * to follow. Cut an accepted input into pieces anywhere, and feed them in their order to a stream that began fresh. If
+ * no piece is refused, the two give the same frames in the same order and the same number of bytes skipped, and the
+ * bytes that the stream then holds are the last `left` of the input. That is proved. `examples/compare.c` does it with
+ * a recording.
+ *
+ * The last frame of a recording is among the bytes left, unless sync follows it in the input or a false frame took its
+ * beginning. This and what no reader can know from the bytes are told above `hpsdr_stream_feed`, and hold here too. */
 uint64_t hpsdr_plain_read(const uint8_t *input, size_t input_length, uint8_t *output, size_t output_length);
 
 static inline struct hpsdr_plain hpsdr_plain_of(uint64_t returned) {
     struct hpsdr_plain plain;
     plain.got = (uint32_t)(returned & 0xffffffff);
-    plain.frames = (uint32_t)(returned >> 8 & 0xff);
+    plain.frames = hpsdr_found_in(plain.got);
     plain.skipped = (uint32_t)(returned >> 32 & 0xffff);
     plain.left = (uint32_t)(returned >> 48);
     return plain;

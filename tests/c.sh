@@ -1,7 +1,7 @@
 #!/bin/sh
-# Builds the tests of the library from C and the examples against the archive, and runs the tests and peaks, alone and
-# under valgrind; the tests of the header's short forms as C++ too. Says how much stack a feeding needs, and nothing
-# else unless something fails.
+# Builds the tests of the library from C and the examples against the archive, and runs the tests, peaks and compare,
+# alone and under valgrind; the tests of the header's short forms as C++ too. Says how much stack a feeding needs, and
+# nothing else unless something fails.
 set -eu
 root=$(cd "$(dirname "$0")/.." && pwd)
 archive=$root/target/archive/libhpsdr.a
@@ -23,12 +23,19 @@ build_as_cpp() {
         fail "$1 does not build as C++"
 }
 
-# A program of $work and its arguments, alone and under valgrind.
+# A program of $work and its arguments, under valgrind.
+run_watched() {
+    program=$1
+    shift
+    valgrind --error-exitcode=1 --leak-check=full -q "$work/$program" "$@" || fail "$program under valgrind"
+}
+
+# A test and its arguments, alone and under valgrind.
 run() {
     program=$1
     shift
     "$work/$program" "$@" || fail "tests/$program finds faults"
-    valgrind --error-exitcode=1 --leak-check=full -q "$work/$program" "$@" || fail "tests/$program under valgrind"
+    run_watched "$program" "$@"
 }
 
 zeros() {
@@ -134,17 +141,69 @@ $held_frame
 END
 }
 
-# The exit status that is due, then the arguments of peaks. Its output is left in $work/got.
-peaks() {
-    due=$1
-    shift
-    status=0
-    "$work/peaks" "$@" > "$work/got" 2> "$work/complaint" || status=$?
-    [ "$status" -eq "$due" ] || fail "peaks $* exits $status, expected $due"
+# What compare prints where both readers give these numbers.
+expected_of_agreement() { # FRAMES SKIPPED LEFT
+    cat << END
+frames: $1 at once, $1 in pieces, the same
+bytes skipped: $2 at once, $2 in pieces, the same
+bytes left: $3 at once, $3 in pieces, the same
+END
 }
 
+# A program, the exit status that is due, and its arguments. Its output is left in $work/got.
+exits() {
+    program=$1
+    due=$2
+    shift 2
+    status=0
+    "$work/$program" "$@" > "$work/got" 2> "$work/complaint" || status=$?
+    [ "$status" -eq "$due" ] || fail "$program $* exits $status, expected $due"
+}
+
+peaks() {
+    exits peaks "$@"
+}
+
+compare() {
+    exits compare "$@"
+}
+
+# The name of what is expected, and the numbers that it takes.
 check_output() {
-    "expected_of_$1" | diff - "$work/got" || fail "peaks, the output due of $1: \"<\" is expected, \">\" is printed"
+    name=$1
+    shift
+    "expected_of_$name" "$@" | diff - "$work/got" ||
+        fail "$program, the output due of $name $*: \"<\" is expected, \">\" is printed"
+}
+
+check_silence() {
+    [ ! -s "$work/got" ] || fail "$program prints $1"
+}
+
+# One line that begins so.
+check_complaint() {
+    [ "$(wc -l < "$work/complaint")" -eq 1 ] || fail "$program does not complain by one line"
+    grep -q "^$1" "$work/complaint" || fail "$program complains otherwise: $(cat "$work/complaint")"
+}
+
+# compare on the recording, with a plain reader that is wrong by one statement: what it says of the frames, of the bytes
+# skipped and of the bytes left.
+compare_wrong() { # STATEMENT FRAMES SKIPPED LEFT
+    cat > "$work/wrong.c" << END
+#include <hpsdr.h>
+static struct hpsdr_plain read_wrongly(const uint8_t *input, size_t length, uint8_t *output) {
+    struct hpsdr_plain plain = hpsdr_read_at_once(input, length, output);
+    $1;
+    return plain;
+}
+#define hpsdr_read_at_once read_wrongly
+#include "compare.c"
+END
+    cc -std=c11 $warnings -I"$root/include" -I"$root/examples" "$work/wrong.c" "$archive" -o "$work/wrong" ||
+        fail "compare with '$1' does not build"
+    exits wrong 1 < "$recording"
+    sed 's/.* in pieces, //' "$work/got" > "$work/words"
+    printf '%s\n' "$2" "$3" "$4" | diff - "$work/words" || fail "compare with '$1': \"<\" is expected, \">\" is printed"
 }
 
 [ -f "$archive" ] || fail "there is no $archive: make it with tools/archive.sh"
@@ -155,6 +214,7 @@ build tests/stack.c "$work/stack"
 build_as_cpp tests/forms.c "$work/forms.cpp"
 build_as_cpp tests/recordings.c "$work/recordings.cpp"
 build examples/peaks.c "$work/peaks"
+build examples/compare.c "$work/compare"
 # What these print stands in the README, and tests/readme.sh compares it.
 build examples/program.c "$work/program"
 build examples/send.c "$work/send"
@@ -186,14 +246,50 @@ peaks 0 3 < "$work/extremes"
 check_output extremes
 for argument in 0 9 '' 1x -1 12; do
     peaks 2 "$argument" < "$recording"
-    [ ! -s "$work/got" ] || fail "peaks prints for the argument '$argument'"
+    check_silence "for the argument '$argument'"
 done
 peaks 2 < "$recording"
 peaks 2 1 1 < "$recording"
 # A folder cannot be read.
 peaks 1 1 < "$work"
-[ -s "$work/complaint" ] || fail "peaks does not complain of a reading error"
+check_complaint 'peaks: standard input: '
 
-valgrind --error-exitcode=1 --leak-check=full -q "$work/peaks" 1 < "$recording" > "$work/got" ||
-    fail "peaks under valgrind"
+run_watched peaks 1 < "$recording" > "$work/got"
 check_output 1
+
+# Of the recording's twelve frames the fifth's 506 bytes are skipped, and the twelfth is left unless sync follows.
+for argument in 1 2 511 512 513 4096; do
+    compare 0 "$argument" < "$recording"
+    check_output agreement 10 506 512
+done
+compare 0 < "$recording"
+check_output agreement 10 506 512
+compare 0 3 < "$work/with_sync"
+check_output agreement 11 506 3
+compare 0 1 < /dev/null
+check_output agreement 0 0 0
+# Without sync all but 514 bytes are skipped. Where all are 7F a frame begins every 512 bytes, and the last is left.
+zeros 65536 > "$work/longest"
+compare 0 < "$work/longest"
+check_output agreement 0 65022 514
+tr '\0' '\177' < "$work/longest" > "$work/sync_all_over"
+compare 0 1000 < "$work/sync_all_over"
+check_output agreement 127 0 512
+zeros 65537 > "$work/longer"
+compare 1 < "$work/longer"
+check_silence 'for a recording that is too long'
+check_complaint 'compare: the recording is longer than 65536 bytes$'
+for argument in 0 4097 '' 1x -1 +1 99999999999999999999; do
+    compare 2 "$argument" < "$recording"
+    check_silence "for the argument '$argument'"
+done
+compare 2 1 1 < "$recording"
+compare 1 < "$work"
+check_complaint 'compare: standard input: '
+run_watched compare 1000 < "$work/sync_all_over" > "$work/got"
+check_output agreement 127 0 512
+
+compare_wrong 'output[10 * 512 - 1] ^= 1' 'not the same' 'the same' 'the same'
+compare_wrong 'plain.frames--' 'not the same' 'the same' 'the same'
+compare_wrong 'plain.skipped++' 'the same' 'not the same' 'the same'
+compare_wrong 'plain.left--' 'the same' 'the same' 'not the same'

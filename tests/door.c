@@ -4,6 +4,7 @@
 
 #include <hpsdr.h>
 
+#include <inttypes.h>
 #include <stdbool.h>
 #include <stddef.h>
 #include <stdint.h>
@@ -89,12 +90,13 @@ static uint32_t stream_feed(void) {
                              lent.output[1], pass.output);
 }
 
-/* Reports the first byte of an area that is not as expected. */
-static void compare(const char *what, const struct area *area) {
-    const uint8_t *is = (const uint8_t *)&lent + area->start, *should = (const uint8_t *)&expected + area->start;
-    for (size_t place = 0; place < area->size; place++)
+/* Reports the first byte that is not as expected. */
+static void compare(const char *what, const char *name, const uint8_t *is, const uint8_t *should, size_t size) {
+    if (memcmp(is, should, size) == 0)
+        return;
+    for (size_t place = 0; place < size; place++)
         if (is[place] != should[place]) {
-            report("%s: byte %zu of the three of %s is %02X, expected %02X", what, place, area->name, is[place],
+            report("%s: byte %zu of the three of %s is %02X, expected %02X", what, place, name, is[place],
                    should[place]);
             return;
         }
@@ -106,8 +108,9 @@ static void run_at(const char *what, uint32_t (*call)(void), uint32_t answer, ui
     if (got != (answer | found << 8 | (uint32_t)place << 16))
         report("%s: got answer %u, found %u, place %u, expected %u, %u, %zu", what, (unsigned)hpsdr_answer_of(got),
                (unsigned)hpsdr_found_in(got), (unsigned)hpsdr_place_in(got), (unsigned)answer, (unsigned)found, place);
-    for (size_t at = 0; at < sizeof areas / sizeof *areas; at++)
-        compare(what, &areas[at]);
+    for (const struct area *area = areas; area < areas + sizeof areas / sizeof *areas; area++)
+        compare(what, area->name, (const uint8_t *)&lent + area->start, (const uint8_t *)&expected + area->start,
+                area->size);
 }
 
 /* The answers that have no place. */
@@ -1294,6 +1297,169 @@ static void test_eight_frames(void) {
     run("stream feed of eight frames", stream_feed, HPSDR_ACCEPTED, 8);
 }
 
+/* ---- the plain reader, on a desk of its own: every other call would compare its 65,536 bytes too ---- */
+
+struct plain_desk {
+    uint8_t input[3][HPSDR_INPUT_MOST + 1];
+    uint8_t output[3][HPSDR_INPUT_MOST + 1];
+};
+static struct plain_desk plain, plain_expected;
+
+/* What is due of a reading: its numbers, and where its frames begin. */
+struct plain_due {
+    enum hpsdr_answer answer;
+    uint64_t frames, skipped, left;
+    const size_t *starts;
+};
+
+/* No byte of the input is 7F, and no two of 127 frames that stand one after another are alike. */
+static void set_out_plain(void) {
+    memset(&plain, 0xEE, sizeof plain);
+    for (size_t place = 0; place < sizeof plain.input[1]; place++)
+        plain.input[1][place] = (uint8_t)(0x80 | place % 127);
+}
+
+static void put_sync(size_t place) { memset(plain.input[1] + place, 0x7F, 3); }
+
+/* Reads the first so many bytes into so many of the output, and compares all 64 bits and the whole desk. */
+static void run_plain(const char *what, size_t length, size_t output, const struct plain_due *due) {
+    const uint64_t should = due->answer | due->frames << 8 | due->skipped << 32 | due->left << 48;
+    memcpy(&plain_expected, &plain, sizeof plain);
+    for (size_t frame = 0; frame < due->frames; frame++)
+        memcpy(plain_expected.output[1] + HPSDR_FRAME * frame, plain.input[1] + due->starts[frame], HPSDR_FRAME);
+    const uint64_t is = hpsdr_plain_read(plain.input[1], length, plain.output[1], output);
+    if (is != should)
+        report("%s: got %016" PRIX64 ", expected %016" PRIX64, what, is, should);
+    compare(what, "input", plain.input[0], plain_expected.input[0], sizeof plain.input);
+    compare(what, "output", plain.output[0], plain_expected.output[0], sizeof plain.output);
+}
+
+/* Into an output that is as long as the input, and into a longer one. */
+static void read_plain(const char *what, size_t length, const struct plain_due due) {
+    run_plain(what, length, length, &due);
+    memset(plain.output[1], 0xEE, sizeof plain.output[1]);
+    run_plain(what, length, length + 1, &due);
+    memset(plain.output[1], 0xEE, sizeof plain.output[1]);
+}
+
+static void refuse_plain(const char *what, size_t length, size_t output, enum hpsdr_answer refusal) {
+    const struct plain_due due = {.answer = refusal};
+    run_plain(what, length, output, &due);
+}
+
+/* What document 01's rule makes of inputs with sync at some places. */
+static void test_plain_by_hand(void) {
+    static const size_t at_0[] = {0}, at_1[] = {1}, at_0_and_549[] = {0, 549}, at_last[] = {65021};
+    static const struct {
+        const char *what;
+        size_t length, count, syncs[4];
+        struct plain_due due;
+    } cases[] = {
+        {"nothing", 0, 0, {0}, {.left = 0}},
+        {"one byte", 1, 0, {0}, {.left = 1}},
+        {"row j, 514 with sync at 0", 514, 1, {0}, {.left = 514}},
+        {"row k, 515 with sync at 0 and 512", 515, 2, {0, 512}, {.frames = 1, .left = 3, .starts = at_0}},
+        {"row l, 515 with sync at 0 only", 515, 1, {0}, {.skipped = 1, .left = 514}},
+        {"515 with sync at 512 only", 515, 1, {512}, {.skipped = 1, .left = 514}},
+        /* Place 100 is never come to, and at 512 fewer than 515 bytes remain. */
+        {"sync inside a frame", 615, 4, {0, 100, 512, 612}, {.frames = 1, .left = 103, .starts = at_0}},
+        /* At 512 there is sync, but none at 1,024: the 37 bytes up to 549 are skipped. */
+        {"stray bytes between frames", 1064, 4, {0, 512, 549, 1061},
+         {.frames = 2, .skipped = 37, .left = 3, .starts = at_0_and_549}},
+        /* From 513 on there are 599 bytes. They have no second sync, and 85 of them are skipped. */
+        {"stray bytes before and after a frame", 1112, 2, {1, 513},
+         {.frames = 1, .skipped = 1 + 85, .left = 514, .starts = at_1}},
+        {"no sync", 65536, 0, {0}, {.skipped = 65022, .left = 514}},
+        {"a frame at the last place that is read", 65536, 2, {65021, 65533},
+         {.frames = 1, .skipped = 65021, .left = 3, .starts = at_last}},
+        {"a frame one place later", 65536, 2, {65022, 65534}, {.skipped = 65022, .left = 514}},
+    };
+    for (size_t at = 0; at < sizeof cases / sizeof *cases; at++) {
+        set_out_plain();
+        for (size_t number = 0; number < cases[at].count; number++)
+            put_sync(cases[at].syncs[number]);
+        read_plain(cases[at].what, cases[at].length, cases[at].due);
+    }
+}
+
+/* A stray 7F and two bytes of sync are 7F 7F 7F. 512 bytes later stand the frame's last byte and two bytes of the next
+ * sync, so a frame begins at 0 if that last byte is 7F, and at 1 if not. */
+static void test_plain_stray(void) {
+    static const size_t at_0[] = {0}, at_1[] = {1};
+    set_out_plain();
+    plain.input[1][0] = 0x7F;
+    put_sync(1);
+    put_sync(513);
+    read_plain("a stray 7F before a frame", 516,
+               (struct plain_due){.frames = 1, .skipped = 1, .left = 3, .starts = at_1});
+    plain.input[1][512] = 0x7F;
+    read_plain("a stray 7F before a frame that ends in 7F", 516,
+               (struct plain_due){.frames = 1, .left = 4, .starts = at_0});
+}
+
+/* Each byte of the two syncs, with one bit wrong. */
+static void test_plain_sync(void) {
+    static const size_t places[] = {0, 1, 2, 512, 513, 514};
+    for (size_t at = 0; at < sizeof places / sizeof *places; at++) {
+        set_out_plain();
+        put_sync(0);
+        put_sync(512);
+        plain.input[1][places[at]] ^= 1;
+        read_plain("515 with a wrong byte of sync", 515, (struct plain_due){.skipped = 1, .left = 514});
+    }
+}
+
+/* The longest input, with sync every 512 bytes from a place on, 128 times. A frame begins at each but the last: what
+ * stands from there on is left, all 512 bytes of a frame if the first place is 0. */
+static void test_plain_longest(void) {
+    for (size_t first = 0; first < 3; first++) {
+        size_t starts[128];
+        set_out_plain();
+        for (size_t number = 0; number < 128; number++) {
+            starts[number] = first + HPSDR_FRAME * number;
+            put_sync(starts[number]);
+        }
+        read_plain("frames in the longest input", HPSDR_INPUT_MOST,
+                   (struct plain_due){.frames = 127, .skipped = first, .left = 512 - first, .starts = starts});
+    }
+}
+
+/* Bytes of which most are 7F, so that sync stands at many places, held to the plain reading of this file. */
+static void test_plain_noise(void) {
+    enum { NOISE = 2600 };
+    uint32_t state = 1;
+    struct hpsdr_counts counts;
+    size_t starts[NOISE / HPSDR_FRAME];
+    set_out_plain();
+    for (size_t place = 0; place < NOISE; place++) {
+        state = state * 1664525 + 1013904223;
+        plain.input[1][place] = state >> 24 < 230 ? 0x7F : (uint8_t)(state >> 16);
+    }
+    for (size_t length = 0; length <= NOISE; length += 26) {
+        counts = read_plainly(plain.input[1], length, starts);
+        read_plain("noise", length,
+                   (struct plain_due){HPSDR_ACCEPTED, counts.frames, counts.skipped, counts.held, starts});
+    }
+    if (counts.frames < 2 || counts.skipped < 2)
+        report("in noise are %u frames and %u bytes skipped, expected more", (unsigned)counts.frames,
+               (unsigned)counts.skipped);
+}
+
+/* The input would give a frame, and most of the outputs have room for it. */
+static void test_plain_refusals(void) {
+    static const size_t outputs[] = {0, 511, 512, 513, 514};
+    set_out_plain();
+    put_sync(0);
+    put_sync(512);
+    for (size_t at = 0; at < sizeof outputs / sizeof *outputs; at++)
+        refuse_plain("515 bytes to a shorter output", 515, outputs[at], HPSDR_SHORT_BUFFER);
+    refuse_plain("one byte to no output", 1, 0, HPSDR_SHORT_BUFFER);
+    refuse_plain("65,536 bytes to 65,535", 65536, 65535, HPSDR_SHORT_BUFFER);
+    refuse_plain("65,537 bytes", 65537, 65537, HPSDR_LENGTH);
+    refuse_plain("65,537 bytes to 65,536", 65537, 65536, HPSDR_LENGTH);
+    refuse_plain("65,537 bytes to no output", 65537, 0, HPSDR_LENGTH);
+}
+
 int main(void) {
     test_layout();
     test_fresh(0);
@@ -1357,5 +1523,11 @@ int main(void) {
     test_row(515, false, (struct hpsdr_counts){514, 0, 1, 515});
     test_recording();
     test_eight_frames();
+    test_plain_by_hand();
+    test_plain_stray();
+    test_plain_sync();
+    test_plain_longest();
+    test_plain_noise();
+    test_plain_refusals();
     return faults ? 1 : 0;
 }

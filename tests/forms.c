@@ -29,6 +29,7 @@ struct desk {
 };
 
 static struct desk given, by_short, by_full;
+
 /* ---- the forms; the numbers of the full ones are written out ---- */
 
 static uint32_t short_row(struct desk *d) { return hpsdr_row_of(d->receivers, &d->row); }
@@ -442,6 +443,56 @@ static void test_wrong_count(void) {
     }
 }
 
+/* ---- the plain reader, which returns 64 bits and takes more than the desk has ---- */
+
+static uint8_t recorded[65537], untouched[65537], output_by_short[65537], output_by_full[65537];
+
+/* Frames one after another, without the first bytes. No two are alike. */
+static void record_without(size_t bytes) {
+    for (size_t place = 0; place < sizeof recorded; place++)
+        recorded[place] = (place + bytes) % 512 < 3 ? 0x7F : (uint8_t)(0x80 + (place + bytes) / 512);
+}
+
+/* Calls both forms on the first so many bytes that are recorded. The frames begin behind those skipped. */
+static void both_at_once(size_t length, const struct hpsdr_plain *due) {
+    memset(untouched, 0xEE, sizeof untouched);
+    memcpy(output_by_short, untouched, sizeof untouched);
+    memcpy(output_by_full, untouched, sizeof untouched);
+    const struct hpsdr_plain plain = hpsdr_read_at_once(recorded, length, output_by_short);
+    const uint64_t returned = hpsdr_plain_read(recorded, length, output_by_full, length);
+    check(plain.got == due->got, "read_at_once", "what is got is another", length);
+    check(plain.frames == due->frames, "read_at_once", "the number of frames is another", length);
+    check(plain.skipped == due->skipped, "read_at_once", "skipped is another", length);
+    check(plain.left == due->left, "read_at_once", "left is another", length);
+    check(returned == (due->got | (uint64_t)due->skipped << 32 | (uint64_t)due->left << 48), "read_at_once",
+          "the full form returns another", length);
+    check(memcmp(output_by_short, recorded + due->skipped, 512 * due->frames) == 0, "read_at_once",
+          "the frames are others", length);
+    check_rest("read_at_once", output_by_short, untouched, 512 * due->frames, sizeof untouched, length);
+    check(memcmp(output_by_short, output_by_full, sizeof output_by_full) == 0, "read_at_once",
+          "the full form leaves another", length);
+}
+
+/* Where the first bytes are missing, so is the first frame, and what remains of it is skipped. */
+static void test_at_once(void) {
+    static const struct {
+        size_t without, length;
+        struct hpsdr_plain due;
+    } cases[] = {{0, 0, {0, 0, 0, 0}},
+                 {0, 514, {0, 0, 0, 514}},
+                 {0, 515, {1 << 8, 1, 0, 3}},
+                 {0, 1026, {1 << 8, 1, 0, 514}},
+                 {0, 1027, {2 << 8, 2, 0, 3}},
+                 {0, 65536, {127 << 8, 127, 0, 512}},
+                 {1, 4096, {6 << 8, 6, 511, 513}},
+                 {3, 65533, {126 << 8, 126, 509, 512}},
+                 {0, 65537, {HPSDR_LENGTH, 0, 0, 0}}};
+    for (size_t at = 0; at < sizeof cases / sizeof *cases; at++) {
+        record_without(cases[at].without);
+        both_at_once(cases[at].length, &cases[at].due);
+    }
+}
+
 /* ---- the limits of each field ---- */
 
 enum { ANY = -1 };
@@ -593,6 +644,21 @@ static void test_parts(void) {
     }
 }
 
+static void test_parts_of_a_plain_reading(void) {
+    static const struct {
+        uint64_t returned;
+        struct hpsdr_plain plain;
+    } parts[] = {{0, {0, 0, 0, 0}},
+                 {3, {3, 0, 0, 0}},
+                 {UINT64_C(0x0202FDFE00007F00), {0x7F00, 127, 65022, 514}},
+                 {UINT64_C(0x0001000200030405), {0x00030405, 4, 2, 1}},
+                 {UINT64_MAX, {UINT32_MAX, 255, 65535, 65535}}};
+    for (size_t at = 0; at < sizeof parts / sizeof *parts; at++) {
+        const struct hpsdr_plain plain = hpsdr_plain_of(parts[at].returned);
+        check(memcmp(&plain, &parts[at].plain, sizeof plain) == 0, "plain_of", "a part is another", at);
+    }
+}
+
 static void test_words(void) {
     static const struct {
         uint32_t answer;
@@ -601,8 +667,11 @@ static void test_words(void) {
                  {1, "BAD_STATE", "the stream record is unsound, the turn is above 10, or cells hold no record"},
                  {2, "BAD_COUNT", "the receiver count is not 1 to 8"},
                  {3, "LENGTH",
-                  "the frame is not 512 bytes, the transfer is not 1 to 8 times 512, or the piece is above 4,096"},
-                 {4, "SHORT_BUFFER", "a sample slice is shorter than needed, or the output is under 4,096 bytes"},
+                  "the frame is not 512 bytes, the transfer is not 1 to 8 times 512, the piece is above 4,096, "
+                  "or the input is above 65,536"},
+                 {4, "SHORT_BUFFER",
+                  "a sample slice is shorter than needed, a stream's output is under 4,096 bytes, "
+                  "or the output is shorter than the input"},
                  {5, "STREAM_FULL", "more than 2^48 bytes would have been fed"},
                  {6, "NO_SYNC", "the frame's first three bytes are not 7F 7F 7F"},
                  {7, "PADDING", "a padding byte is not 0"},
@@ -737,10 +806,12 @@ int main(void) {
         test_sample_range(n);
     }
     test_wrong_count();
+    test_at_once();
     test_status_fields();
     test_host_fields();
     test_least_receivers_and_turns();
     test_parts();
+    test_parts_of_a_plain_reading();
     test_words();
     test_causes();
     test_texts_with_a_place();

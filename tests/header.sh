@@ -26,6 +26,7 @@ static_assert(HPSDR_HELD == 514, "bytes that a stream may hold");
 static_assert(HPSDR_FRAME == 512 && HPSDR_AUDIO == 252, "bytes of a frame, numbers of a host frame");
 static_assert(HPSDR_MOST_FRAMES == 8, "frames of the longest transfer");
 static_assert(HPSDR_PIECE_MOST == 4096 && HPSDR_OUTPUT_LEAST == 4096, "bytes of a piece and of an output");
+static_assert(HPSDR_INPUT_MOST == 65536, "bytes of an input that is read at once");
 static_assert(HPSDR_ACCEPTED == 0 && HPSDR_BAD_STATE == 1 && HPSDR_BAD_COUNT == 2 && HPSDR_LENGTH == 3 &&
               HPSDR_SHORT_BUFFER == 4 && HPSDR_STREAM_FULL == 5 && HPSDR_NO_SYNC == 6 && HPSDR_PADDING == 7 &&
               HPSDR_RESERVED == 8 && HPSDR_RANGE == 9, "answers");
@@ -50,6 +51,7 @@ static_assert(sizeof(((struct hpsdr_transfer *)0)->iq) == 1280 * sizeof(int32_t)
 static_assert(sizeof(((struct hpsdr_transfer *)0)->mic) == 504 * sizeof(int16_t), "room for a transfer's microphone");
 static_assert(sizeof(((struct hpsdr_stream *)0)->counts) == 4 * sizeof(uint64_t), "counts of a stream");
 static_assert(sizeof(((struct hpsdr_stream *)0)->held) == 514, "held bytes of a stream");
+static_assert(sizeof(struct hpsdr_plain) == 4 * sizeof(uint32_t), "numbers of a plain reading");
 
 /* Declared once more, each with its type. */
 static inline enum hpsdr_answer hpsdr_answer_of(uint32_t got);
@@ -80,6 +82,8 @@ static inline void hpsdr_stream_init(struct hpsdr_stream *stream);
 static inline int hpsdr_stream_is_sound(const struct hpsdr_stream *stream);
 static inline uint32_t hpsdr_feed(struct hpsdr_stream *stream, const uint8_t *piece, size_t length,
                                   uint8_t output[4096]);
+static inline struct hpsdr_plain hpsdr_plain_of(uint64_t returned);
+static inline struct hpsdr_plain hpsdr_read_at_once(const uint8_t *input, size_t length, uint8_t *output);
 END
 
 # The compiler, the language and its year.

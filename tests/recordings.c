@@ -1,5 +1,5 @@
-/* Feeds the three recordings of examples/recording.sh through the header's short forms, and compares what is handed out
- * with frames that are drawn here by hand:
+/* Reads the three recordings of examples/recording.sh by the header's short forms, in pieces and at once, and compares
+ * what is handed out with frames that are drawn here by hand:
  *     recordings LOST IMITATED STRAY
  * takes the recordings' files. Prints a line for each fault, and exits 1 if there is one. It is C and C++. */
 #include "faults.h"
@@ -145,6 +145,17 @@ static void test_reading(const struct recording *due, size_t size) {
           "the held bytes are not the last ones", size);
 }
 
+static void test_reading_at_once(const struct recording *due) {
+    static uint8_t frames[MOST_BYTES];
+    const struct hpsdr_plain plain = hpsdr_read_at_once(due->bytes, due->length, frames);
+    check(hpsdr_answer_of(plain.got) == HPSDR_ACCEPTED, due->name, "it is refused", due->length);
+    check(plain.frames == due->count, due->name, "at once the number of frames is another", plain.frames);
+    check(plain.skipped == due->skipped, due->name, "at once skipped is another", plain.skipped);
+    check(plain.left == due->held, due->name, "at once more or less is left than held", plain.left);
+    check(memcmp(frames, due->frames, HPSDR_FRAME * due->count) == 0, due->name, "at once the frames are others",
+          due->count);
+}
+
 /* A good frame begins inside each false one, at a place that is never read. */
 static void test_good_frames_missed(void) {
     check(memcmp(imitated.bytes + 1018, sync, 3) == 0 && memcmp(imitated.bytes + 1018 + 512, sync, 3) == 0, "imitated",
@@ -234,6 +245,9 @@ int main(int count, char **arguments) {
         test_reading(&imitated, sizes[at]);
         test_reading(&stray, sizes[at]);
     }
+    test_reading_at_once(&lost);
+    test_reading_at_once(&imitated);
+    test_reading_at_once(&stray);
     test_good_frames_missed();
     test_last_frame();
     test_unwhole_last_frame();
