@@ -1,6 +1,7 @@
 //! Frames of the HPSDR USB Data Protocol 1.58, read and written: those that a radio sends for one to eight receivers
 //! ([`Status`], [`Samples`], [`layout`]), those that a host sends to it ([`Host`], [`Builder`]), and the reader that finds
-//! radio frames in a stream of bytes ([`frames`], [`Stream`]).
+//! radio frames in a stream of bytes ([`frames`], [`Stream`]), with a plain one to hold against it, which reads a short
+//! recording at once ([`read_at_once`]).
 //!
 //! A program that prints the peak of each receiver in a recording of three, which comes on standard input:
 //!
@@ -29,6 +30,7 @@ mod choices;
 mod frames;
 mod host;
 mod layout;
+mod plain;
 pub mod raw;
 mod refusal;
 mod samples;
@@ -43,6 +45,7 @@ pub use choices::{
 pub use frames::{frames, Frames};
 pub use host::Host;
 pub use layout::{layout, Row};
+pub use plain::{read_at_once, PlainReading};
 pub use refusal::{Cause, Refusal};
 pub use samples::Samples;
 pub use status::{Status, Word};
@@ -66,5 +69,7 @@ pub const MOST_FRAMES: usize = 8;
 pub const AUDIO: usize = 252;
 /// The most bytes that a piece may have.
 pub const PIECE_MOST: usize = 4096;
+/// The most bytes that an input which is [read at once](read_at_once) may have.
+pub const INPUT_MOST: usize = 65_536;
 /// The least bytes that a stream's output must have.
 pub const OUTPUT_LEAST: usize = 4096;

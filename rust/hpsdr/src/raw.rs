@@ -7,6 +7,9 @@
 //! [`Cause`](crate::Cause). Beside every other answer it is 0. On a refusal a call found 0, but for the frames that
 //! [`hpsdr_radio_read_transfer`] read before the refused one.
 //!
+//! One call returns 64 bits, [`hpsdr_plain_read`]. Above these 32 it has the number of bytes skipped, in bits 47 to 32, and
+//! the number of bytes left, in bits 63 to 48; on a refusal both are 0.
+//!
 //! ```
 //! use hpsdr::raw;
 //!
@@ -157,8 +160,8 @@ extern "C" {
         output_length: usize,
     ) -> u32;
 
-    /// Reads an input of at most 65,536 bytes at once. Bits 31 to 0 are as of every other call, and found is the number of
-    /// frames; bits 47 to 32 are the number of bytes skipped, bits 63 to 48 the number of bytes left.
+    /// Reads an input of at most 65,536 bytes at once; found is the number of frames, 0 to 127. In bits 47 to 32 are the
+    /// bytes skipped, in bits 63 to 48 the bytes left, at most 514.
     pub fn hpsdr_plain_read(
         input: *const u8,
         input_length: usize,

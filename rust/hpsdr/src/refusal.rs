@@ -42,9 +42,11 @@ pub enum Refusal {
     BadState,
     /// 2: the receiver count is not 1 to 8.
     BadCount,
-    /// 3: the frame is not 512 bytes, the transfer is not 1 to 8 times 512, or the piece is above 4,096.
+    /// 3: the frame is not 512 bytes, the transfer is not 1 to 8 times 512, the piece is above 4,096, or the input is
+    /// above 65,536.
     Length,
-    /// 4: a sample slice is shorter than needed, or the output is under 4,096 bytes.
+    /// 4: a sample slice is shorter than needed, a stream's output is under 4,096 bytes, or the output is shorter than
+    /// the input.
     ShortBuffer,
     /// 5: more than 2^48 bytes would have been fed.
     StreamFull,
@@ -90,10 +92,12 @@ impl fmt::Display for Refusal {
             Refusal::BadState => "the stream record is unsound, or the turn is above 10",
             Refusal::BadCount => "the receiver count is not 1 to 8",
             Refusal::Length => {
-                "the frame is not 512 bytes, the transfer is not 1 to 8 times 512, or the piece is above 4,096"
+                "the frame is not 512 bytes, the transfer is not 1 to 8 times 512, the piece is above 4,096, \
+                 or the input is above 65,536"
             }
             Refusal::ShortBuffer => {
-                "a sample slice is shorter than needed, or the output is under 4,096 bytes"
+                "a sample slice is shorter than needed, a stream's output is under 4,096 bytes, \
+                 or the output is shorter than the input"
             }
             Refusal::StreamFull => "more than 2^48 bytes would have been fed",
             Refusal::NoSync { byte } => return write!(formatter, "sync byte {byte} is not 7F"),

@@ -1,10 +1,13 @@
 //! The frames of a reader, however it gives its bytes.
 
 mod common;
+#[path = "common/noise.rs"]
+mod noise;
 #[path = "common/recording.rs"]
 mod recording;
 
 use hpsdr::{frames, Counts, Frames, Samples, Status, Stream, FRAME, OUTPUT_LEAST, PIECE_MOST};
+use noise::mostly_sync;
 use recording::{numbered, recording};
 use std::io::{self, ErrorKind, Read};
 use std::iter::Cycle;
@@ -96,20 +99,6 @@ fn fed_by_hand(bytes: &[u8]) -> (Vec<u8>, Counts) {
         frames.extend_from_slice(&output[..FRAME * found]);
     }
     (frames, stream.counts)
-}
-
-/// Bytes of which most are 7F, so that sync stands at many places.
-fn mostly_sync(length: usize) -> Vec<u8> {
-    let mut state: u32 = 1;
-    let mut byte = || {
-        state = state.wrapping_mul(1_664_525).wrapping_add(1_013_904_223);
-        if state >> 28 < 12 {
-            0x7F
-        } else {
-            (state >> 16) as u8
-        }
-    };
-    (0..length).map(|_| byte()).collect()
 }
 
 #[test]

@@ -1,5 +1,5 @@
 //! What the header's calls return, all 32 bits of it: the answer in bits 7 to 0, what was found in bits 15 to 8, and the
-//! place in bits 31 to 16, which are 0 but beside refusals 6, 7 and 8.
+//! place in bits 31 to 16, which are 0 but beside refusals 6, 7 and 8. The plain reader's 64 have two counts above them.
 
 mod common;
 
@@ -337,6 +337,34 @@ fn no_place_of_a_feed() {
     assert_eq!(feed((1 << 48) - 2, &piece[..3], 4096), 5);
     piece[512] = 0;
     assert_eq!(feed(0, &piece[..515], 4096), 0);
+}
+
+fn plain_read(input: &[u8], output: usize) -> u64 {
+    let mut output = vec![0; output];
+    // SAFETY: each pointer and number are those of one slice, and they do not overlap.
+    unsafe {
+        raw::hpsdr_plain_read(
+            input.as_ptr(),
+            input.len(),
+            output.as_mut_ptr(),
+            output.len(),
+        )
+    }
+}
+
+/// In bytes that are all 7F a frame begins every 512; in those without 7F all but 514 are skipped. 65,022 is FD FE.
+#[test]
+fn counts_of_a_plain_read() {
+    let sync = [0x7F; 65_537];
+    assert_eq!(plain_read(&[], 0), 0);
+    assert_eq!(plain_read(&sync[..514], 514), 0x0202_0000_0000_0000);
+    assert_eq!(plain_read(&sync[..515], 515), 0x0003_0000_0000_0100);
+    assert_eq!(plain_read(&sync[..65_536], 65_536), 0x0200_0000_0000_7F00);
+    assert_eq!(plain_read(&[0; 515], 600), 0x0202_0001_0000_0000);
+    assert_eq!(plain_read(&[0; 65_536], 65_536), 0x0202_FDFE_0000_0000);
+    assert_eq!(plain_read(&sync, 65_537), 3);
+    assert_eq!(plain_read(&sync, 0), 3);
+    assert_eq!(plain_read(&sync[..515], 514), 4);
 }
 
 #[test]

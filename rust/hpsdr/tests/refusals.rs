@@ -3,7 +3,9 @@
 mod common;
 
 use common::frame;
-use hpsdr::{layout, Builder, Cause, Host, Refusal, Samples, Status, Stream, Word, AUDIO};
+use hpsdr::{
+    layout, read_at_once, Builder, Cause, Host, Refusal, Samples, Status, Stream, Word, AUDIO,
+};
 use std::error::Error;
 use std::io;
 
@@ -506,6 +508,24 @@ fn unsound_streams() {
     }
 }
 
+/// In bytes that are all 7F a frame begins every 512.
+fn refused_at_once(input: usize, output: usize, refusal: Refusal) {
+    let mut output = vec![0xEE; output];
+    assert_eq!(read_at_once(&vec![0x7F; input], &mut output), Err(refusal));
+    assert!(output.iter().all(|&byte| byte == 0xEE));
+}
+
+#[test]
+fn at_once() {
+    for output in [0, 65_536, 65_537, 70_000] {
+        refused_at_once(65_537, output, Refusal::Length);
+    }
+    refused_at_once(1_000_000, 1_000_000, Refusal::Length);
+    for (input, output) in [(1, 0), (515, 514), (515, 512), (65_536, 65_535)] {
+        refused_at_once(input, output, Refusal::ShortBuffer);
+    }
+}
+
 fn says(refusal: Refusal, number: u8, text: &str) {
     assert_eq!(refusal.number(), number);
     assert_eq!(refusal.to_string(), text);
@@ -516,8 +536,10 @@ fn says(refusal: Refusal, number: u8, text: &str) {
 #[test]
 fn numbers_and_texts_without_a_place() {
     let unsound = "the stream record is unsound, or the turn is above 10";
-    let length = "the frame is not 512 bytes, the transfer is not 1 to 8 times 512, or the piece is above 4,096";
-    let short = "a sample slice is shorter than needed, or the output is under 4,096 bytes";
+    let length = "the frame is not 512 bytes, the transfer is not 1 to 8 times 512, the piece is above 4,096, \
+                  or the input is above 65,536";
+    let short = "a sample slice is shorter than needed, a stream's output is under 4,096 bytes, \
+                 or the output is shorter than the input";
     says(Refusal::BadState, 1, unsound);
     says(Refusal::BadCount, 2, "the receiver count is not 1 to 8");
     says(Refusal::Length, 3, length);

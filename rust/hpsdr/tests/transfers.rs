@@ -322,8 +322,10 @@ fn texts_of_a_cause() {
 
 #[test]
 fn texts_of_a_refused_input() {
-    let length = "the frame is not 512 bytes, the transfer is not 1 to 8 times 512, or the piece is above 4,096";
-    let short = "a sample slice is shorter than needed, or the output is under 4,096 bytes";
+    let length = "the frame is not 512 bytes, the transfer is not 1 to 8 times 512, the piece is above 4,096, \
+                  or the input is above 65,536";
+    let short = "a sample slice is shorter than needed, a stream's output is under 4,096 bytes, \
+                 or the output is shorter than the input";
     says(Refusal::BadCount, 0, "the receiver count is not 1 to 8");
     says(Refusal::Length, 0, length);
     says(Refusal::ShortBuffer, 0, short);
