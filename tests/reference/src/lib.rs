@@ -1,7 +1,7 @@
 //! An independent implementation of the frames and the stream reader that
 //! document 01 (the scope) defines, with the requests T-01 (transfers), T-02
 //! (the place of a refusal), T-03 (I and Q toward the radio are swapped), T-07
-//! (host word 10) and T-08 (levels are twelve bits).
+//! (host word 10), T-08 (levels are twelve bits) and T-10 (a plain reader).
 //!
 //! Every refusal is `Err` of a [`Refusal`], which has the scope's number and,
 //! for 6, 7 and 8, says its place:
@@ -27,6 +27,7 @@
 mod bits;
 mod frame;
 mod host;
+mod plain;
 mod radio;
 mod refusal;
 mod stream;
@@ -34,6 +35,7 @@ mod transfer;
 
 pub use frame::{row, Row};
 pub use host::{build, host_read, Builder, Host};
+pub use plain::{plain_read, PlainReading, INPUT_MOST};
 pub use radio::{radio_read, radio_write, Status};
 pub use refusal::{Cause, Refusal};
 pub use stream::{Stream, MOST};

@@ -8,7 +8,7 @@ pub enum Refusal {
     BadState,
     /// A receiver count not 1 to 8.
     BadCount,
-    /// A frame, piece or transfer of a length that it cannot have.
+    /// A frame, piece, transfer or input of a length that it cannot have.
     Length,
     /// A slice too short.
     ShortBuffer,

@@ -7,7 +7,7 @@ use crate::refusal::Refusal;
 pub const MOST: usize = 4096;
 
 /// The bytes that settle whether a place begins a good frame.
-const WINDOW: usize = FRAME + SYNC.len();
+pub(crate) const WINDOW: usize = FRAME + SYNC.len();
 /// The most bytes held: one too few to settle a place.
 const HELD: usize = WINDOW - 1;
 const TOTAL_MOST: u64 = 1 << 48;
@@ -162,6 +162,6 @@ impl Reading<'_> {
 }
 
 #[inline]
-fn begins_good_frame(window: &[u8; WINDOW]) -> bool {
+pub(crate) fn begins_good_frame(window: &[u8; WINDOW]) -> bool {
     window[..SYNC.len()] == SYNC && window[FRAME..] == SYNC
 }

@@ -417,3 +417,33 @@ fn feed_refuses_a_cell_past_the_held_bytes() {
         assert_eq!(call, before);
     }
 }
+
+#[derive(Clone, Debug, PartialEq)]
+struct PlainCall {
+    input: Vec<u8>,
+    output: Vec<u8>,
+}
+
+fn run_plain_read(call: &mut PlainCall) -> Option<Refusal> {
+    plain_read(&call.input, &mut call.output).err()
+}
+
+#[test]
+fn plain_read_refuses_in_order() {
+    // A frame and 3 bytes: the frame has room in each of the outputs but the empty one.
+    let good = PlainCall {
+        input: vec![0x7F; 515],
+        output: vec![0xEE; 515],
+    };
+    let faults: [Fault<PlainCall>; 5] = [
+        (Length, |c| {
+            c.input.resize(65_537, 0x7F);
+            c.output.resize(65_537, 0xEE);
+        }),
+        (Length, |c| c.input.resize(131_072, 0x7F)),
+        (ShortBuffer, |c| c.output.truncate(514)),
+        (ShortBuffer, |c| c.output.truncate(512)),
+        (ShortBuffer, |c| c.output.clear()),
+    ];
+    check_every_set(&good, run_plain_read, &faults);
+}

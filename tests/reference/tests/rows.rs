@@ -95,6 +95,7 @@ fn row_j_514_bytes_are_held() {
         total: 514,
     };
     assert_eq!(stream, expected);
+    assert_eq!(read_at_once(&bytes), (vec![], 0, bytes.to_vec()));
 }
 
 #[test]
@@ -107,6 +108,8 @@ fn row_k_515_bytes_give_a_frame() {
     assert_eq!((stream.frames, stream.skipped, stream.total), (1, 0, 515));
     assert_eq!((stream.count, &stream.held[..3]), (3, &SYNC[..]));
     assert!(stream.sound());
+    let plain = (bytes[..512].to_vec(), 0, SYNC.to_vec());
+    assert_eq!(read_at_once(&bytes), plain);
 }
 
 #[test]
@@ -117,6 +120,7 @@ fn row_l_515_bytes_with_one_sync_skip_one() {
     assert_eq!(frames, 0);
     assert_eq!((stream.frames, stream.skipped, stream.total), (0, 1, 515));
     assert_eq!((stream.count, &stream.held[..]), (514, &bytes[1..]));
+    assert_eq!(read_at_once(&bytes), (vec![], 1, bytes[1..].to_vec()));
 }
 
 #[test]

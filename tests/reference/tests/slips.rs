@@ -5,16 +5,12 @@ mod common;
 use common::*;
 use reference::*;
 
-/// A frame without 7F outside its sync, filled with `filler`.
-fn filled(filler: u8) -> Vec<u8> {
-    let mut bytes = vec![filler; 512];
-    bytes[..3].copy_from_slice(&SYNC);
-    bytes
-}
-
+/// By the stream reader, and by the plain one, which must give the same.
 fn read_whole(bytes: &[u8]) -> (Vec<u8>, Stream) {
     let mut stream = Stream::fresh();
     let frames = feed_in_pieces(&mut stream, bytes, MOST);
+    let left = stream.held[..stream.count].to_vec();
+    assert_eq!(read_at_once(bytes), (frames.clone(), stream.skipped, left));
     (frames, stream)
 }
 

@@ -51,22 +51,6 @@ fn a_piece_can_hand_out_eight_frames() {
     assert_eq!(output[512..], bytes[512..4096]);
 }
 
-/// The scope's reading of all the bytes at once: frames, skipped, left.
-fn reading(bytes: &[u8]) -> (Vec<u8>, u64, Vec<u8>) {
-    let (mut frames, mut skipped, mut place) = (Vec::new(), 0, 0);
-    while bytes.len() - place >= 515 {
-        let sync = |at: usize| bytes[at..at + 3] == SYNC;
-        if sync(place) && sync(place + 512) {
-            frames.extend_from_slice(&bytes[place..place + 512]);
-            place += 512;
-        } else {
-            skipped += 1;
-            place += 1;
-        }
-    }
-    (frames, skipped, bytes[place..].to_vec())
-}
-
 /// Frames, lost bytes, stray bytes and runs of 7F in no fixed order.
 fn rough_stream(noise: &mut Noise) -> Vec<u8> {
     let mut bytes = Vec::new();
@@ -87,7 +71,7 @@ fn every_cutting_reads_the_same() {
     let mut noise = Noise(5);
     for _ in 0..40 {
         let bytes = rough_stream(&mut noise);
-        let (frames, skipped, left) = reading(&bytes);
+        let (frames, skipped, left) = read_at_once(&bytes);
         let random = 1 + noise.below(4096);
         for size in CUTS.into_iter().chain([3, 100, 1027, 1028, 1029, random]) {
             let mut stream = Stream::fresh();
@@ -122,7 +106,7 @@ fn reading_goes_on_from_every_sound_record() {
             let mut stream = record_holding(held, 1000, 77);
             let length = noise.below(3500);
             let whole = &source[start..start + count + length];
-            let (frames, skipped, left) = reading(whole);
+            let (frames, skipped, left) = read_at_once(whole);
             let mut output = [0xEE; MOST + 1];
             let answer = stream.feed(&whole[count..], &mut output);
             assert_eq!(answer, Ok(frames.len() / 512));

@@ -1,7 +1,9 @@
 //! What several test files share.
 #![allow(dead_code)]
 
-use reference::{host_read, radio_read, Host, Refusal, Status, Stream, MOST};
+use reference::{
+    host_read, plain_read, radio_read, Host, PlainReading, Refusal, Status, Stream, MOST,
+};
 use std::fmt::Debug;
 
 pub const SYNC: [u8; 3] = [0x7F, 0x7F, 0x7F];
@@ -24,6 +26,13 @@ pub fn frame(control: [u8; 5]) -> [u8; 512] {
     frame[..3].copy_from_slice(&SYNC);
     frame[3..8].copy_from_slice(&control);
     frame
+}
+
+/// A frame without 7F outside its sync, filled with `filler`.
+pub fn filled(filler: u8) -> Vec<u8> {
+    let mut bytes = vec![filler; 512];
+    bytes[..3].copy_from_slice(&SYNC);
+    bytes
 }
 
 /// Reads a one-receiver frame into `status`; gives the answer.
@@ -170,6 +179,20 @@ pub fn feed_in_pieces(stream: &mut Stream, bytes: &[u8], size: usize) -> Vec<u8>
         assert!(stream.sound());
     }
     frames
+}
+
+/// What the plain reader gives: the frames, the skipped count, the bytes left.
+pub fn read_at_once(bytes: &[u8]) -> (Vec<u8>, u64, Vec<u8>) {
+    let mut output = vec![0xEE; bytes.len() + 7];
+    let reading = plain_read(bytes, &mut output).unwrap();
+    let PlainReading {
+        frames,
+        skipped,
+        left,
+    } = reading;
+    assert!(output[512 * frames..].iter().all(|&cell| cell == 0xEE));
+    output.truncate(512 * frames);
+    (output, skipped as u64, bytes[bytes.len() - left..].to_vec())
 }
 
 /// A refusal and a change to a good call that brings it about.
