@@ -197,6 +197,65 @@ mistake_below 1 stream.cases 'piece settled at 510 = 7F 7F | answer 0 frames 2' 
     'piece settled at 510 = 7F 7F | answer 0 frames 3' \
     'no frame from 512 or 513 on: expected answer 0 frames 3; door answer 0 frames 2; reference answer 0 frames 2'
 
+# The plain reader (T-10). Claimed are a frame on the near sync alone, on two bytes of it, and on a far sync a byte early; a
+# frame that a stray 7F hides, and 512 bytes that are skipped after a failed test; a byte skipped where 514 remain, none
+# where 515 do, no bytes left behind a frame, and 128 frames; a good frame inside another, a gap between frames, and a
+# remainder that is not as before; an input of 65,536 that is refused and one of 65,537 that is read; an output that has
+# room for the frames alone, one that a refusal writes to, and one that is refused before the length; and counts beside
+# a refusal.
+mistake_below 1 plain_read.cases 'input 515 of 00 sync 0 | answer 0 frames 0 skipped 1 left 514' \
+    'input 515 of 00 sync 0 | answer 0 frames 1 skipped 0 left 3' \
+    'expected answer 0 frames 1 skipped 0 left 3; door answer 0 frames 0 skipped 1 left 514; reference answer 0 frames 0'
+mistake plain_read.cases 'input at 2 = FF   | answer 0 frames 0 skipped 1 left 514' \
+    'input at 2 = FF   | answer 0 frames 1 skipped 0 left 3 | output put told at 0 at 2 = FF' \
+    'expected answer 0 frames 1 skipped 0 left 3; door answer 0 frames 0 skipped 1 left 514; reference answer 0 frames 0'
+mistake plain_read.cases 'input 515 of 00 sync 0 511 | answer 0 frames 0 skipped 1 left 514' \
+    'input 515 of 00 sync 0 511 | answer 0 frames 1 skipped 0 left 3' \
+    'expected answer 0 frames 1 skipped 0 left 3; door answer 0 frames 0 skipped 1 left 514; reference answer 0 frames 0'
+mistake_below 1 plain_read.cases 'input 516 of 7F put told at 1 | answer 0 frames 1 skipped 1 left 3' \
+    'input 516 of 7F put told at 1 | answer 0 frames 0 skipped 2 left 514' \
+    'expected answer 0 frames 0 skipped 2 left 514; door answer 0 frames 1 skipped 1 left 3; reference answer 0 frames 1'
+mistake_below 1 plain_read.cases 'put frame2 at 517 sync 1029 | answer 0 frames 2 skipped 5 left 3' \
+    'put frame2 at 517 sync 1029 | answer 0 frames 0 skipped 518 left 514' \
+    'expected answer 0 frames 0 skipped 518 left 514; door answer 0 frames 2 skipped 5 left 3; reference answer 0 frames 2'
+mistake plain_read.cases 'input 514 of 11  | answer 0 frames 0 skipped 0 left 514' \
+    'input 514 of 11  | answer 0 frames 0 skipped 1 left 513' \
+    'expected answer 0 frames 0 skipped 1 left 513; door answer 0 frames 0 skipped 0 left 514; reference answer 0 frames 0'
+mistake plain_read.cases 'input 515 of 11  | answer 0 frames 0 skipped 1 left 514' \
+    'input 515 of 11  | answer 0 frames 0 skipped 0 left 515' \
+    'expected answer 0 frames 0 skipped 0 left 515; door answer 0 frames 0 skipped 1 left 514; reference answer 0 frames 0'
+mistake_below 1 plain_read.cases 'input 515 of 00 sync 0 512 | answer 0 frames 1 skipped 0 left 3' \
+    'input 515 of 00 sync 0 512 | answer 0 frames 1 skipped 0 left 0' \
+    'expected answer 0 frames 1 skipped 0 left 0; door answer 0 frames 1 skipped 0 left 3; reference answer 0 frames 1'
+mistake_below 1 plain_read.cases 'input 65536 of 7F | answer 0 frames 127 skipped 0 left 512' \
+    'input 65536 of 7F | answer 0 frames 128 skipped 0 left 0' \
+    'expected answer 0 frames 128 skipped 0 left 0; door answer 0 frames 127 skipped 0 left 512; reference answer 0 frames 127'
+mistake_below 1 plain_read.cases 'sync 0 100 512 612 | answer 0 frames 1 skipped 0 left 103' \
+    'sync 0 100 512 612 | answer 0 frames 2 skipped 0 left 3' \
+    'expected answer 0 frames 2 skipped 0 left 3; door answer 0 frames 1 skipped 0 left 103; reference answer 0 frames 1'
+mistake_below 2 plain_read.cases 'left 3 | output put frame1 at 0 put frame2 at 512 put frame3 at 1024' \
+    'left 3 | output put frame1 at 0 put frame2 at 517 put frame3 at 1024' 'output[512]: expected AA; door 7F; reference 7F'
+mistake_below 1 plain_read.cases 'left 514 | output put frame1 at 0' 'left 514 | output put frame1 at 0 at 2099 = 00' \
+    'output[2099]: expected 00; door AA; reference AA'
+mistake plain_read.cases '65536 bytes without sync | answer 0 frames 0 skipped 65022 left 514' \
+    '65536 bytes without sync | answer 3 frames 0 skipped 0 left 0' \
+    'expected answer 3 frames 0 skipped 0 left 0; door answer 0 frames 0 skipped 65022 left 514; reference answer 0 frames 0'
+mistake plain_read.cases 'input 65537 of 7F  | output length 65537 | answer 3 frames 0 skipped 0 left 0' \
+    'input 65537 of 7F  | output length 65537 | answer 0 frames 127 skipped 0 left 513' \
+    'expected answer 0 frames 127 skipped 0 left 513; door answer 3 frames 0 skipped 0 left 0; reference answer 3 frames 0'
+mistake plain_read.cases 'output length 512 | answer 4 frames 0 skipped 0 left 0' \
+    'output length 512 | answer 0 frames 1 skipped 0 left 3' \
+    'expected answer 0 frames 1 skipped 0 left 3; door answer 4 frames 0 skipped 0 left 0; reference answer 4 frames 0'
+mistake plain_read.cases 'an output of 514          | output length 514 | answer 4 frames 0 skipped 0 left 0' \
+    'an output of 514          | output length 514 | answer 4 frames 0 skipped 0 left 0 | output put told at 0' \
+    'output[0]: expected 7F; door AA; reference AA'
+mistake_below 1 plain_read.cases 'output 65536 of AA | answer 3 frames 0 skipped 0 left 0' \
+    'output 65536 of AA | answer 4 frames 0 skipped 0 left 0' \
+    'expected answer 4 frames 0 skipped 0 left 0; door answer 3 frames 0 skipped 0 left 0; reference answer 3 frames 0'
+mistake_below 1 plain_read.cases 'output 65535 of AA | answer 4 frames 0 skipped 0 left 0' \
+    'output 65535 of AA | answer 4 frames 127 skipped 0 left 512' \
+    'expected answer 4 frames 127 skipped 0 left 512; door answer 4 frames 0 skipped 0 left 0; reference answer 4 frames 0'
+
 # A cell that is claimed to be as it was: in a record, past what a call writes, in a lent frame; and one that
 # is claimed to have changed after a refusal, or to be as it was after one that comes behind frames that were read.
 mistake radio_read.cases '| answer 0 word 1 | status dot 1' '| answer 0 word 1' \
@@ -212,7 +271,8 @@ mistake radio_transfer.cases 'answer 6 frames 4 byte 1 | iq iq4 | mic mic4 | sta
 mistake host_build.cases 'turn 5 outputs 128 | answer 9' 'turn 5 outputs 128 | answer 9 | builder turn 6' \
     'builder turn: expected 6; door 5; reference 5'
 
-# A word that is not known: a call, an argument, a cell, contents, a kind, what is found, what its place is, a cause.
+# A word that is not known: a call, an argument, a cell, contents, a kind, what is found or counted, what its place is, a
+# cause.
 mistake layout.cases 'layout of 3 |' 'layuot of 3 |' "unknown word 'layuot'"
 mistake layout.cases 'receivers 4 |' 'recievers 4 |' "unknown word 'recievers'"
 mistake radio_read.cases 'answer 0 word 0 | status pll 1' 'answer 0 word 0 | status pl 1' "status: unknown word 'pl'"
@@ -233,6 +293,9 @@ mistake radio_read.cases 'control 08 00 00 9C 40 | answer 8 word 0 cause ain1' \
 mistake radio_read.cases 'control 10 0F FF 10 00 | answer 8 word 0 cause ain3' \
     'control 10 0F FF 10 00 | answer 8 word 0 byte 6' "unknown word 'byte'"
 
+mistake plain_read.cases 'input 3 of 7F    | answer 0 frames 0 skipped 0 left 3' \
+    'input 3 of 7F    | answer 0 frames 0 skipped 0 held 3' "unknown word 'held'"
+
 # A place beside an answer that says none: an accepted call, a refusal of another kind, and one of the whole transfer.
 mistake radio_read.cases 'answer 0 word 31 | status dot 1 ptt 1' 'answer 0 word 31 byte 0 | status dot 1 ptt 1' \
     "unknown word 'byte'"
@@ -241,13 +304,15 @@ mistake radio_read.cases 'frame length 513 | answer 3 word 0' 'frame length 513 
 mistake radio_transfer.cases 'mic length 503 | input at 3584 = 7E | answer 4 frames 0' \
     'mic length 503 | input at 3584 = 7E | answer 4 frames 0 byte 0' "unknown word 'byte'"
 mistake host_build.cases 'builder turn 255 | answer 1' 'builder turn 255 | answer 1 cause source10' "unknown word 'cause'"
+mistake plain_read.cases 'input at 514 = 7E | answer 0 frames 0 skipped 1 left 514' \
+    'input at 514 = 7E | answer 0 frames 0 skipped 1 left 514 byte 514' "unknown word 'byte'"
 mistake radio_read.cases 'control 08 01 F4 04 56 | answer 0 word 1' 'control 08 01 F4 04 56 | answer 0 word 1 cause ain1' \
     "unknown word 'cause'"
 mistake radio_write.cases 'status ain3 4096 | word 2 | answer 9' 'status ain3 4096 | word 2 | answer 9 cause ain3' \
     "unknown word 'cause'"
 
-# What is missing: an answer, what is found, a place, a cause, an argument, a field of a record, a title, a part of a
-# description.
+# What is missing: an answer, what is found or counted, a place, a cause, an argument, a field of a record, a title, a part
+# of a description.
 mistake layout.cases '| answer 0 | row slot 8' '| row slot 8' 'the answer is missing'
 mistake layout.cases 'receivers 0 | answer 2' 'receivers 0 | answer' 'the answer is missing'
 mistake radio_read.cases 'receivers 9 | answer 2 word 0' 'receivers 9 | answer 2' 'word is missing'
@@ -262,6 +327,10 @@ mistake radio_read.cases 'control 18 FF FF 00 00 | answer 8 word 0 cause ain4' \
     'control 18 FF FF 00 00 | answer 8 word 0' 'cause is missing'
 mistake radio_transfer.cases 'input at 3588 = 10 00 | answer 8 frames 7 cause ain5' \
     'input at 3588 = 10 00 | answer 8 frames 7' 'cause is missing'
+mistake plain_read.cases 'input 2 of 7F    | answer 0 frames 0 skipped 0 left 2' \
+    'input 2 of 7F    | answer 0 frames 0' 'skipped is missing'
+mistake plain_read.cases 'an output of 0            | output length 0   | answer 4 frames 0 skipped 0 left 0' \
+    'an output of 0            | output length 0   | answer 4 frames 0 skipped 0' 'left is missing'
 mistake_below -2 layout.cases 'usual layout | row 4 of 77' 'usual layout' 'row is missing'
 mistake fresh.cases '| builder marked turn 7 | answer 0' '| builder marked | answer 0' 'builder turn is missing'
 mistake layout.cases 'layout of 2 |' 'layout |' "the case's title is missing"
@@ -273,6 +342,11 @@ mistake radio_read.cases 'control 00 20 00 00 00' 'control 00 2G 00 00 00' "fram
 mistake radio_read.cases 'control 00 40 00 00 00' 'control 00 40 00 00' 'frame: control is not five bytes'
 mistake layout.cases 'receivers 9 | answer' 'receivers -1 | answer' 'receivers: -1 is out of range'
 mistake layout.cases 'receivers 257 | answer 2' 'receivers 257 | answer 10' "the answer: '10' is not a number from 0 to 9"
+mistake plain_read.cases 'input 1 of 7F    | answer 0 frames 0 skipped 0 left 1' \
+    'input 1 of 7F    | answer 0 frames 256 skipped 0 left 1' "frames: '256' is not a number from 0 to 255"
+mistake plain_read.cases 'input length 65535 | answer 0 frames 0 skipped 65021 left 514' \
+    'input length 65535 | answer 0 frames 0 skipped 65536 left 514' \
+    "skipped: '65536' is not a number from 0 to 65535"
 mistake radio_read.cases 'frame at 2 = 7E | answer 6 word 0 byte 2' 'frame at 2 = 7E | answer 6 word 0 byte 3' \
     "byte: '3' is not a number from 0 to 2"
 mistake radio_read.cases 'frame at 488 x 24 = 01 | answer 7 word 0 byte 488' \

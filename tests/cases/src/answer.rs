@@ -1,10 +1,11 @@
 //! The answer of a case, as it is written and as the door returns it.
 //!
-//!     answer 0                        a call that finds nothing
-//!     answer 0 word 1                 what the call finds, by its name
-//!     answer 7 word 0 byte 509        refusals 6 and 7: the place, a byte of the frame
-//!     answer 8 address 0 cause relay  refusal 8: the cause, by its name
-//!     answer 8 word 0 cause ain5      of a frame from the radio: the level
+//!     answer 0                            a call that finds nothing
+//!     answer 0 word 1                     what the call finds, by its name
+//!     answer 0 frames 1 skipped 0 left 3  the plain reader counts what it skips and leaves, too
+//!     answer 7 word 0 byte 509            refusals 6 and 7: the place, a byte of the frame
+//!     answer 8 address 0 cause relay      refusal 8: the cause, by its name
+//!     answer 8 word 0 cause ain5          of a frame from the radio: the level
 //!
 //! The three refusals must say it, and no other answer may.
 
@@ -13,7 +14,8 @@ use crate::entry::{Clause, Mistake};
 use differential::model::Parts;
 
 const REFUSALS: u32 = 9;
-const FOUND_MOST: u32 = 0xFF;
+/// The most that can be returned of what is found, skipped and left.
+const FOUND_MOST: [u32; 3] = [0xFF, 0xFFFF, 0xFFFF];
 /// The causes of refusal 8, from 1 on.
 #[rustfmt::skip]
 const CAUSES: [&str; 10] = [
@@ -37,13 +39,14 @@ fn place_of(answer: u32) -> Option<Place> {
 }
 
 /// As the door returns it.
-pub fn answer(call: &Call, clause: &Clause) -> Result<u32, Mistake> {
+pub fn answer(call: &Call, clause: &Clause) -> Result<u64, Mistake> {
     let mut words = Words { clause, next: 1 };
     let answer = words.number("the answer", REFUSALS)?;
-    let found = match call.found {
-        Some(name) => words.named(name)?.number(name, FOUND_MOST)?,
-        None => 0,
-    };
+    let mut counts = [0; FOUND_MOST.len()];
+    for (count, (name, most)) in counts.iter_mut().zip(call.found.iter().zip(FOUND_MOST)) {
+        *count = words.named(name)?.number(name, most)?;
+    }
+    let [found, skipped, left] = counts;
     let place = match place_of(answer) {
         Some(Place::Byte { most }) => words.named("byte")?.number("byte", most)?,
         Some(Place::Cause) => words.named("cause")?.cause()?,
@@ -54,22 +57,29 @@ pub fn answer(call: &Call, clause: &Clause) -> Result<u32, Mistake> {
         answer,
         found,
         place,
+        skipped,
+        left,
     };
     Ok(parts.returned())
 }
 
 /// As it is written. What a call should not return is shown too.
-pub fn shown(call: &Call, returned: u32) -> String {
+pub fn shown(call: &Call, returned: u64) -> String {
     let Parts {
         answer,
         found,
         place,
+        skipped,
+        left,
     } = Parts::of(returned);
-    let found = match call.found {
-        Some(name) => format!(" {name} {found}"),
-        None if found != 0 => format!(" and {found}"),
-        None => String::new(),
-    };
+    let counts = (0..).zip([found, skipped, left]);
+    let found: String = counts
+        .map(|(number, count)| match call.found.get(number) {
+            Some(name) => format!(" {name} {count}"),
+            None if count != 0 => format!(" and {count}"),
+            None => String::new(),
+        })
+        .collect();
     let place = match place_of(answer) {
         Some(Place::Byte { .. }) => format!(" byte {place}"),
         Some(Place::Cause) => format!(" cause {}", cause_name(place)),

@@ -17,8 +17,8 @@ pub const fn argument(name: &'static str, kind: &'static Kind) -> Argument {
 pub struct Call {
     pub name: &'static str,
     pub arguments: &'static [Argument],
-    /// What the call finds, if it finds something.
-    pub found: Option<&'static str>,
+    /// What the call finds and, after it, what the plain reader counts.
+    pub found: &'static [&'static str],
     /// Makes the call on both sides; an error says why the case is none.
     pub run: fn(&Given) -> Result<Ran, String>,
 }

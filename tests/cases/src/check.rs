@@ -81,7 +81,7 @@ mod tests {
         let call = Box::leak(Box::new(Call {
             name: "made_up",
             arguments: &ARGUMENTS,
-            found: Some("word"),
+            found: &["word"],
             run,
         }));
         check(&Case {
@@ -94,7 +94,7 @@ mod tests {
         })
     }
 
-    type Side = (u32, [i16; 2]);
+    type Side = (u64, [i16; 2]);
     const RIGHT: Side = (0x100, [5, 6]);
 
     fn ran(library: Side, reference: Side, stray: Option<String>) -> Result<Ran, String> {

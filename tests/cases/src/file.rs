@@ -27,7 +27,7 @@ pub struct Case {
     pub given: Vec<Vec<i128>>,
     pub after: Vec<Vec<i128>>,
     /// As the door returns it.
-    pub answer: u32,
+    pub answer: u64,
 }
 
 /// The arguments of a call as far as they have been said.

@@ -143,7 +143,7 @@ impl Reading {
     }
 
     /// A call that is accepted hands out the frames that were read.
-    pub fn check(&self, returned: u32) -> Result<u32, String> {
+    pub fn check(&self, returned: u64) -> Result<u64, String> {
         let promised = Parts {
             found: self.frames,
             ..Parts::default()

@@ -8,14 +8,16 @@ use hpsdr::raw;
 /// What a call returned on each side, as the door returns it.
 #[derive(Clone, Copy)]
 pub struct Both {
-    pub library: u32,
-    pub reference: u32,
+    pub library: u64,
+    pub reference: u64,
 }
 
 impl Both {
     fn of(library: u32, reference: Answer) -> Both {
-        let reference = returned(reference);
-        Both { library, reference }
+        Both {
+            library: library.into(),
+            reference: returned(reference),
+        }
     }
 }
 
@@ -102,7 +104,10 @@ pub fn radio_read_transfer(
         mic.reference(),
         status.reference(),
     );
-    Both { library, reference }
+    Both {
+        library: library.into(),
+        reference,
+    }
 }
 
 pub fn radio_write(
@@ -225,4 +230,18 @@ pub fn stream_feed(
         output.reference(),
     );
     Both::of(library, reference)
+}
+
+pub fn plain_read(input: &mut Lent<u8>, output: &mut Lent<u8>) -> Both {
+    // SAFETY: the slices are whole and apart.
+    let library = unsafe {
+        raw::hpsdr_plain_read(
+            input.pointer(),
+            input.length(),
+            output.pointer(),
+            output.length(),
+        )
+    };
+    let reference = model::plain_read(input.reference(), output.reference());
+    Both { library, reference }
 }

@@ -64,7 +64,7 @@ pub trait Case: Sized + 'static {
 }
 
 /// What the library returned, or how the two sides differ.
-pub type Outcome = Result<u32, String>;
+pub type Outcome = Result<u64, String>;
 
 pub fn outcome(both: Both, buffers: &[&dyn Left]) -> Outcome {
     let Both { library, reference } = both;

@@ -148,7 +148,7 @@ impl Flaw {
     }
 
     /// T-02: the flaw's refusal comes with its place, and without a flaw none of the three and no place.
-    pub fn check(flaw: Option<Flaw>, returned: u32) -> Result<(), String> {
+    pub fn check(flaw: Option<Flaw>, returned: u64) -> Result<(), String> {
         let Parts { answer, place, .. } = Parts::of(returned);
         let says = place != 0 || (NO_SYNC..=RESERVED).contains(&answer);
         let said = says.then_some((answer, place));

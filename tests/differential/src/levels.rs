@@ -101,7 +101,7 @@ pub fn check_read(before: &[u32], after: &[u32]) -> Result<(), String> {
 }
 
 /// T-08: a record is written only if each level is at most 4,095.
-pub fn check_write(returned: u32, status: &[u32]) -> Result<(), String> {
+pub fn check_write(returned: u64, status: &[u32]) -> Result<(), String> {
     if Parts::of(returned).answer != 0 {
         return Ok(());
     }

@@ -7,6 +7,7 @@ mod flaw;
 mod host;
 mod levels;
 mod options;
+mod plain;
 mod radio;
 mod records;
 mod slots;
@@ -27,6 +28,7 @@ use random::Random;
 use records::{Builder, Fresh, Host, Layout, Status, StreamFresh};
 use std::process::ExitCode;
 use tally::Tally;
+use whole::AT_ONCE;
 
 /// A difference, with the name of the call.
 type Differs = (&'static str, String);
@@ -42,15 +44,15 @@ struct Run<'a> {
 }
 
 /// The call's line of the table, and those of the parts that are chosen.
-fn lines<C: Case>(chosen: impl Fn(&Part<C>) -> bool) -> Vec<Call> {
-    let parts = C::PARTS.iter().filter(|part| chosen(part));
+fn lines<T>(call: Call, parts: &[Part<T>], chosen: impl Fn(&Part<T>) -> bool) -> Vec<Call> {
+    let parts = parts.iter().filter(|part| chosen(part));
     let lines = parts.map(|part| part.line);
-    std::iter::once(C::CALL).chain(lines).collect()
+    std::iter::once(call).chain(lines).collect()
 }
 
 fn single<C: Case>(run: Run) -> Result<(), Differs> {
     let case = made::<C>(run.number, run.random);
-    let lines = lines::<C>(|part| (part.holds)(&case));
+    let lines = lines(C::CALL, C::PARTS, |part| (part.holds)(&case));
     let flaw = case.flaw();
     let differs = |difference| (C::CALL.name, difference);
     let returned = case.compare(&run.guards).map_err(differs)?;
@@ -87,6 +89,9 @@ fn whole(run: Run, stream: whole::Stream) -> Result<(), Differs> {
     for returned in ran.returned {
         run.tally.count(&[stream::Feed::CALL], returned);
     }
+    let at_once = ran.at_once;
+    let lines = lines(plain::Read::CALL, AT_ONCE, |part| (part.holds)(&at_once));
+    run.tally.count(&lines, at_once.returned);
     run.tally.wholes += 1;
     run.tally.demanded += u64::from(ran.demanded);
     run.tally.count_across(run.theme, &ran.across);
@@ -105,7 +110,7 @@ struct Kind {
 const fn kind<C: Case>(share: usize) -> Kind {
     Kind {
         run: single::<C>,
-        lines: || lines::<C>(|_| true),
+        lines: || lines(C::CALL, C::PARTS, |_| true),
         flaws: || {
             C::flaws()
                 .into_iter()
@@ -130,6 +135,13 @@ const KINDS: &[Kind] = &[
     kind::<StreamFresh>(2),
     kind::<stream::Sound>(12),
     kind::<stream::Feed>(30),
+    kind::<plain::Read>(10),
+    // Some forty calls each.
+    Kind {
+        run: |run| whole(run, whole::run_any),
+        lines: || lines(plain::Read::CALL, AT_ONCE, |_| true),
+        ..kind::<plain::Read>(1)
+    },
     // Some sixty calls each.
     Kind {
         run: |run| whole(run, whole::run),

@@ -15,24 +15,33 @@ pub struct Parts {
     pub found: u32,
     /// Bits 31 to 16: the place of a refusal that says one.
     pub place: u32,
+    /// Bits 47 to 32, of the plain reader alone: the bytes skipped.
+    pub skipped: u32,
+    /// Bits 63 to 48, of the plain reader alone: the bytes left.
+    pub left: u32,
 }
 
 impl Parts {
-    pub fn of(returned: u32) -> Parts {
+    pub fn of(returned: u64) -> Parts {
+        let bits = |from: u32, count: u32| (returned >> from) as u32 & ((1 << count) - 1);
         Parts {
-            answer: returned & 0xff,
-            found: returned >> 8 & 0xff,
-            place: returned >> 16,
+            answer: bits(0, 8),
+            found: bits(8, 8),
+            place: bits(16, 16),
+            skipped: bits(32, 16),
+            left: bits(48, 16),
         }
     }
 
-    pub fn returned(self) -> u32 {
-        self.place << 16 | self.found << 8 | self.answer
+    pub fn returned(self) -> u64 {
+        let lower = self.place << 16 | self.found << 8 | self.answer;
+        let upper = self.left << 16 | self.skipped;
+        u64::from(upper) << 32 | u64::from(lower)
     }
 }
 
 /// An answer as the door returns it.
-pub fn returned(answer: Answer) -> u32 {
+pub fn returned(answer: Answer) -> u64 {
     let parts = match answer {
         Ok(found) => Parts {
             found,
@@ -113,7 +122,7 @@ pub fn radio_read_transfer(
     iq: &mut [i32],
     mic: &mut [i16],
     status: &mut [u32],
-) -> u32 {
+) -> u64 {
     let Some(mut record) = cells::status(status) else {
         return returned(Err(Refusal::BadState));
     };
@@ -169,4 +178,18 @@ pub fn stream_feed(counts: &mut [u64], held: &mut [u8], piece: &[u8], output: &m
     let frames = record.feed(piece, output)?;
     cells::stream_into(&record, counts, held);
     Ok(frames as u32)
+}
+
+/// As the door returns it: the bytes skipped and left are counted too.
+pub fn plain_read(input: &[u8], output: &mut [u8]) -> u64 {
+    match reference::plain_read(input, output) {
+        Ok(reading) => Parts {
+            found: reading.frames as u32,
+            skipped: reading.skipped as u32,
+            left: reading.left as u32,
+            ..Parts::default()
+        }
+        .returned(),
+        Err(refusal) => returned(Err(refusal)),
+    }
 }

@@ -17,7 +17,7 @@ fn place(number: usize) -> usize {
 }
 
 /// T-03: after an accepted call each number stands at its place.
-pub fn check(returned: u32, frame: &[u8], audio: &[i16]) -> Result<(), String> {
+pub fn check(returned: u64, frame: &[u8], audio: &[i16]) -> Result<(), String> {
     if Parts::of(returned).answer != 0 {
         return Ok(());
     }

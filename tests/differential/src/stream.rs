@@ -5,8 +5,8 @@ use crate::both;
 use crate::case::{outcome, Call, Case, Draw, Outcome, Twist};
 use crate::cells::{COUNTS, HELD};
 use crate::lent::Guards;
-use crate::text::{frame, near_sync, text};
-use crate::twist::{cell_count, resize, FRAME, SYNC};
+use crate::text::{laid, text};
+use crate::twist::{cell_count, resize, FRAME};
 
 pub const PIECE_MOST: usize = 4096;
 pub const OUTPUT_LEAST: usize = 4096;
@@ -50,16 +50,6 @@ fn held_beside_sync(turn: usize) -> (usize, usize) {
     let of_frame = HELD_BESIDE_SYNC[turn % HELD_BESIDE_SYNC.len()];
     let before = turn / HELD_BESIDE_SYNC.len() % (HELD + 1 - of_frame);
     (before + of_frame, of_frame)
-}
-
-/// What stands before a frame.
-fn before(length: usize, draw: &mut Draw) -> Vec<u8> {
-    match draw.random.below(6) {
-        0 => vec![0x7f; length],
-        1 => near_sync(length, draw),
-        2 => text(length, draw),
-        _ => draw.random.bytes(length),
-    }
 }
 
 pub struct Record {
@@ -243,13 +233,8 @@ impl Feed {
             _ => held_beside_sync(draw.turn / 2),
         };
         let place = held - of_frame;
-        let mut bytes = before(place, draw);
-        bytes.extend(frame(draw));
-        bytes.extend(SYNC);
         // Somewhat more than half of them are good.
-        if let Some(byte) = SYNC_BYTES.get(draw.turn % 13) {
-            bytes[place + byte] ^= 1 << draw.random.below(8);
-        }
+        let mut bytes = laid(place, SYNC_BYTES.get(draw.turn % 13), draw);
         let most = PIECE_MOST - (WINDOW - of_frame);
         let any = draw.random.below(most);
         let more = draw.random.pick(&[0, 0, 1, 2, 3, 509, 512, 515, any, most]);
@@ -286,6 +271,10 @@ impl Feed {
 
     pub fn skipped(&self) -> u64 {
         self.record.counts[SKIPPED]
+    }
+
+    pub fn held(&self) -> &[u8] {
+        &self.record.held[..self.record.counts[HELD_COUNT] as usize]
     }
 
     /// The total so near its most that the piece just fits, is one too long, or one too short.

@@ -68,7 +68,7 @@ impl Tally {
     }
 
     /// Counts one call, in its line and in those of its parts.
-    pub fn count(&mut self, lines: &[Call], returned: u32) {
+    pub fn count(&mut self, lines: &[Call], returned: u64) {
         for call in lines {
             let line = self.line(call).expect("every call and part has a line");
             line.came[returned as usize & 0xff] += 1;

@@ -1,4 +1,4 @@
-//! Bytes for the stream reader: good frames, damaged ones, imitated sync and noise.
+//! Bytes for the stream reader and the plain one: good frames, damaged ones, imitated sync and noise.
 
 use crate::case::Draw;
 use crate::twist::{FRAME, SYNC};
@@ -60,4 +60,40 @@ pub fn text(length: usize, draw: &mut Draw) -> Vec<u8> {
     }
     text.truncate(before + length);
     text.split_off(before)
+}
+
+pub fn frames(count: usize, draw: &mut Draw) -> Vec<u8> {
+    (0..count).flat_map(|_| frame(draw)).collect()
+}
+
+/// Frames of which no two neighbours both have their sync.
+fn damaged_frames(length: usize, draw: &mut Draw) -> Vec<u8> {
+    let mut frames = frames(length / FRAME + 1, draw);
+    for first in (FRAME..frames.len()).step_by(2 * FRAME) {
+        frames[first + draw.random.below(SYNC.len())] ^= 1 << draw.random.below(8);
+    }
+    frames.truncate(length);
+    frames
+}
+
+/// As many bytes of one kind.
+pub fn stretch(length: usize, draw: &mut Draw) -> Vec<u8> {
+    match draw.random.below(6) {
+        0 => vec![0x7f; length],
+        1 => near_sync(length, draw),
+        2 => text(length, draw),
+        3 => damaged_frames(length, draw),
+        _ => draw.random.bytes(length),
+    }
+}
+
+/// Bytes up to a place, and there a frame and sync: good, or with the given one of their bytes wrong.
+pub fn laid(place: usize, wrong: Option<&usize>, draw: &mut Draw) -> Vec<u8> {
+    let mut bytes = stretch(place, draw);
+    bytes.extend(frame(draw));
+    bytes.extend(SYNC);
+    if let Some(byte) = wrong {
+        bytes[place + byte] ^= 1 << draw.random.below(8);
+    }
+    bytes
 }

@@ -1,14 +1,16 @@
 //! Whole streams, fed piece by piece from a fresh record on. Besides the reference's word on every
 //! call, demand 3 is stated directly, of what was put in: where good frames are followed by a middle of
 //! which no place begins a good frame, and that by good frames and sync, then in every cutting just
-//! those frames come out, and the skipped count is the middle's length.
+//! those frames come out, and the skipped count is the middle's length. So is request T-10: the plain
+//! reader gives of all the bytes at once what the stream reader gave of the pieces.
 
 use crate::across::{Across, Reading};
-use crate::case::Draw;
+use crate::case::{Draw, Outcome, Part};
 use crate::lent::Guards;
 use crate::model::Parts;
+use crate::plain;
 use crate::stream::{Feed, PIECE_MOST};
-use crate::text::{frame, near_sync, text};
+use crate::text::{frames, stretch};
 use crate::twist::{FRAME, SYNC};
 
 const MIDDLE_LENGTHS: [usize; 16] = [
@@ -25,44 +27,57 @@ pub struct Whole {
 /// What a whole stream did.
 pub struct Ran {
     /// What each call returned.
-    pub returned: Vec<u32>,
+    pub returned: Vec<u64>,
+    pub at_once: AtOnce,
     /// Whether demand 3 spoke of it.
     pub demanded: bool,
     /// How its frames lay across joins. Where demand 3 does not speak, frames come by chance, and do not count.
     pub across: Vec<Across>,
 }
 
+/// A reading by the plain reader of what was fed in pieces.
+pub struct AtOnce {
+    pub returned: u64,
+    pieces: Vec<usize>,
+}
+
+impl AtOnce {
+    fn parts(&self) -> Parts {
+        Parts::of(self.returned)
+    }
+}
+
+/// Such readings that must come.
+pub const AT_ONCE: &[Part<AtOnce>] = &[
+    Part::of("- as the stream", &[0], |_| true),
+    Part::of("- as the stream, frames", &[0], |at| at.parts().found > 0),
+    Part::of("- as the stream, skipped", &[0], |at| {
+        at.parts().skipped > 0
+    }),
+    Part::of("- as the stream, left", &[0], |at| at.parts().left > 0),
+    Part::of("- as the stream, all three", &[0], |at| {
+        let Parts {
+            found,
+            skipped,
+            left,
+            ..
+        } = at.parts();
+        [found, skipped, left].iter().all(|&count| count > 0)
+    }),
+    Part::of("- a piece of 0", &[0], |at| at.pieces.contains(&0)),
+    Part::of("- a piece of 1", &[0], |at| at.pieces.contains(&1)),
+    Part::of("- a piece of 4,096", &[0], |at| {
+        at.pieces.contains(&PIECE_MOST)
+    }),
+];
+
 /// A way to draw and to feed one.
 pub type Stream = fn(&mut Draw, &Guards) -> Result<Ran, String>;
-
-fn frames(count: usize, draw: &mut Draw) -> Vec<u8> {
-    (0..count).flat_map(|_| frame(draw)).collect()
-}
-
-/// Frames of which no two neighbours both have their sync.
-fn damaged_frames(length: usize, draw: &mut Draw) -> Vec<u8> {
-    let mut frames = frames(length / FRAME + 1, draw);
-    for first in (FRAME..frames.len()).step_by(2 * FRAME) {
-        frames[first + draw.random.below(SYNC.len())] ^= 1 << draw.random.below(8);
-    }
-    frames.truncate(length);
-    frames
-}
-
-fn middle(length: usize, draw: &mut Draw) -> Vec<u8> {
-    match draw.random.below(6) {
-        0 => vec![0x7f; length],
-        1 => near_sync(length, draw),
-        2 => text(length, draw),
-        3 => damaged_frames(length, draw),
-        _ => draw.random.bytes(length),
-    }
-}
 
 impl Whole {
     fn of(before: usize, length: usize, after: usize, draw: &mut Draw) -> Whole {
         let mut bytes = frames(before, draw);
-        bytes.extend(middle(length, draw));
+        bytes.extend(stretch(length, draw));
         bytes.extend(frames(after, draw));
         bytes.extend(SYNC);
         if before > 0 {
@@ -141,32 +156,93 @@ impl Whole {
 
     /// Feeds it in pieces that end at the given places.
     fn run_to(&self, ends: Vec<usize>, guards: &Guards) -> Result<Ran, String> {
-        self.run(&pieces_to(ends, self.bytes.len()), guards)
+        self.run(pieces_to(ends, self.bytes.len()), guards)
     }
 
-    fn run(&self, pieces: &[usize], guards: &Guards) -> Result<Ran, String> {
-        let (mut feed, mut handed_out) = (Feed::fresh(), Vec::new());
-        let (mut returned, mut start) = (Vec::with_capacity(pieces.len()), 0);
-        let mut reading = Reading::new(self.syncs());
-        for &length in pieces {
+    fn across(&self, pieces: &[usize]) -> Vec<Across> {
+        let (mut reading, mut start) = (Reading::new(self.syncs()), 0);
+        for length in pieces {
             let end = start + length;
-            let answer = feed.step(&self.bytes[start..end], guards)?;
-            let frames = Parts::of(answer).found as usize;
-            handed_out.extend_from_slice(feed.frames(frames));
-            returned.push(answer);
             reading.go_on(&self.bytes[..end], start);
             start = end;
         }
+        reading.across
+    }
+
+    fn run(&self, pieces: Vec<usize>, guards: &Guards) -> Result<Ran, String> {
+        let fed = Fed::of(&self.bytes, &pieces, guards)?;
         let demanded = self.middle_is_bad();
+        let mut across = Vec::new();
         if demanded {
-            self.check(&handed_out, feed.skipped())?;
-        } else {
-            reading.across.clear();
+            self.check(&fed.handed_out, fed.feed.skipped())?;
+            across = self.across(&pieces);
         }
+        let ran = fed.ran(&self.bytes, pieces, guards)?;
         Ok(Ran {
-            returned,
             demanded,
-            across: reading.across,
+            across,
+            ..ran
+        })
+    }
+}
+
+/// What came of feeding bytes in pieces, from a fresh record on.
+struct Fed {
+    feed: Feed,
+    handed_out: Vec<u8>,
+    returned: Vec<u64>,
+}
+
+impl Fed {
+    fn of(bytes: &[u8], pieces: &[usize], guards: &Guards) -> Result<Fed, String> {
+        let (mut feed, mut handed_out) = (Feed::fresh(), Vec::new());
+        let (mut returned, mut rest) = (Vec::with_capacity(pieces.len()), bytes);
+        for &length in pieces {
+            let (piece, later) = rest.split_at(length);
+            let answer = feed.step(piece, guards)?;
+            let frames = Parts::of(answer).found as usize;
+            handed_out.extend_from_slice(feed.frames(frames));
+            returned.push(answer);
+            rest = later;
+        }
+        Ok(Fed {
+            feed,
+            handed_out,
+            returned,
+        })
+    }
+
+    /// T-10, of the same bytes.
+    fn check(&self, bytes: &[u8], guards: &Guards) -> Outcome {
+        let read = plain::read(bytes, &vec![0xee; bytes.len()], guards);
+        let (returned, output) = read.map_err(|difference| format!("all at once: {difference}"))?;
+        let Parts {
+            found,
+            skipped,
+            left,
+            ..
+        } = Parts::of(returned);
+        let frames = &output[..found as usize * FRAME];
+        let left = &bytes[bytes.len() - left as usize..];
+        let same = [
+            ("frames", frames == self.handed_out),
+            ("skipped counts", u64::from(skipped) == self.feed.skipped()),
+            ("bytes left", left == self.feed.held()),
+        ];
+        match same.into_iter().find(|(_, same)| !same) {
+            Some((what, _)) => Err(format!("T-10: the {what} of the two readers differ")),
+            None => Ok(returned),
+        }
+    }
+
+    /// One that demand 3 does not speak of.
+    fn ran(self, bytes: &[u8], pieces: Vec<usize>, guards: &Guards) -> Result<Ran, String> {
+        let returned = self.check(bytes, guards)?;
+        Ok(Ran {
+            returned: self.returned,
+            at_once: AtOnce { returned, pieces },
+            demanded: false,
+            across: Vec::new(),
         })
     }
 }
@@ -215,8 +291,8 @@ fn in_frames(whole: &Whole, turn: usize) -> Vec<usize> {
     syncs.map(|sync| sync + turn % FRAME).collect()
 }
 
-fn random_ends(length: usize, draw: &mut Draw) -> Vec<usize> {
-    let most = draw.random.pick(&[20, 600, 2 * PIECE_MOST]);
+/// They are fewer than so many bytes apart.
+fn random_ends(length: usize, most: usize, draw: &mut Draw) -> Vec<usize> {
     let mut ends = vec![draw.random.below(most)];
     while ends.last().is_some_and(|&end| end < length) {
         let next = ends[ends.len() - 1] + draw.random.below(most);
@@ -250,7 +326,20 @@ pub fn run(draw: &mut Draw, guards: &Guards) -> Result<Ran, String> {
         0 => Vec::new(),
         1 => vec![draw.turn / 4 % length],
         2 => frame_edges(&whole, draw),
-        _ => random_ends(length, draw),
+        _ => {
+            let most = draw.random.pick(&[20, 600, 2 * PIECE_MOST]);
+            random_ends(length, most, draw)
+        }
     };
     whole.run_to(ends, guards)
+}
+
+/// Bytes of any kind and length that the plain reader takes, in any cutting.
+pub fn run_any(draw: &mut Draw, guards: &Guards) -> Result<Ran, String> {
+    let bytes = plain::input(draw);
+    let some_sixty = 2 + bytes.len() / 32;
+    let most = draw.random.pick(&[some_sixty, 600, 8 * PIECE_MOST]);
+    let ends = random_ends(bytes.len(), most, draw);
+    let pieces = pieces_to(ends, bytes.len());
+    Fed::of(&bytes, &pieces, guards)?.ran(&bytes, pieces, guards)
 }

@@ -8,21 +8,21 @@ use differential::lent::Lent;
 pub static STATUS: Call = Call {
     name: "status_fresh",
     arguments: &[argument("status", &kind::STATUS)],
-    found: None,
+    found: &[],
     run: |given| record(given, "status", both::status_fresh),
 };
 
 pub static HOST: Call = Call {
     name: "host_fresh",
     arguments: &[argument("host", &kind::HOST)],
-    found: None,
+    found: &[],
     run: |given| record(given, "host", both::host_fresh),
 };
 
 pub static BUILDER: Call = Call {
     name: "builder_fresh",
     arguments: &[argument("builder", &kind::BUILDER)],
-    found: None,
+    found: &[],
     run: |given| record(given, "builder", both::builder_fresh),
 };
 
@@ -32,7 +32,7 @@ pub static STREAM: Call = Call {
         argument("counts", &kind::COUNTS),
         argument("held", &kind::BYTES),
     ],
-    found: None,
+    found: &[],
     run: stream,
 };
 

@@ -11,7 +11,7 @@ pub static READ: Call = Call {
         argument("audio", &kind::I16),
         argument("host", &kind::HOST),
     ],
-    found: Some("address"),
+    found: &["address"],
     run: read,
 };
 
@@ -30,7 +30,7 @@ pub static BUILD: Call = Call {
         argument("audio", &kind::I16),
         argument("frame", &kind::BYTES),
     ],
-    found: None,
+    found: &[],
     run: build,
 };
 

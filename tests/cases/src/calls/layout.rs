@@ -10,7 +10,7 @@ pub static LAYOUT: Call = Call {
         argument("receivers", &kind::NUMBER),
         argument("row", &kind::ROW),
     ],
-    found: None,
+    found: &[],
     run: layout,
 };
 

@@ -3,12 +3,13 @@
 mod fresh;
 mod host;
 mod layout;
+mod plain;
 mod radio;
 mod stream;
 
 use crate::call::Call;
 
-static CALLS: [&Call; 13] = [
+static CALLS: [&Call; 14] = [
     &layout::LAYOUT,
     &fresh::STATUS,
     &fresh::HOST,
@@ -22,6 +23,7 @@ static CALLS: [&Call; 13] = [
     &stream::SOUND,
     &stream::FEED,
     &stream::PIECES,
+    &plain::READ,
 ];
 
 pub fn find(name: &str) -> Option<&'static Call> {

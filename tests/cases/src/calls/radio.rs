@@ -14,7 +14,7 @@ pub static READ: Call = Call {
         argument("mic", &kind::I16),
         argument("status", &kind::STATUS),
     ],
-    found: Some("word"),
+    found: &["word"],
     run: |given| read(given, "frame", both::radio_read),
 };
 
@@ -27,7 +27,7 @@ pub static READ_TRANSFER: Call = Call {
         argument("mic", &kind::I16),
         argument("status", &kind::STATUS),
     ],
-    found: Some("frames"),
+    found: &["frames"],
     run: |given| read(given, "input", both::radio_read_transfer),
 };
 
@@ -53,7 +53,7 @@ pub static WRITE: Call = Call {
         argument("mic", &kind::I16),
         argument("frame", &kind::BYTES),
     ],
-    found: None,
+    found: &[],
     run: write,
 };
 

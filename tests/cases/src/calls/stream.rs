@@ -12,7 +12,7 @@ pub static SOUND: Call = Call {
         argument("counts", &kind::COUNTS),
         argument("held", &kind::BYTES),
     ],
-    found: None,
+    found: &[],
     run: sound,
 };
 
@@ -31,7 +31,7 @@ pub static FEED: Call = Call {
         argument("piece", &kind::BYTES),
         argument("output", &kind::BYTES),
     ],
-    found: Some("frames"),
+    found: &["frames"],
     run: feed,
 };
 
@@ -54,7 +54,7 @@ pub static PIECES: Call = Call {
         argument("pieces", &kind::LENGTHS),
         argument("handed", &kind::BYTES),
     ],
-    found: Some("frames"),
+    found: &["frames"],
     run: pieces,
 };
 
@@ -78,11 +78,12 @@ impl Side {
         }
     }
 
-    fn take(&mut self, returned: u32, output: &[u8]) -> Result<(), String> {
+    fn take(&mut self, returned: u64, output: &[u8]) -> Result<(), String> {
         let Parts {
             answer,
             found: frames,
             place,
+            ..
         } = Parts::of(returned);
         if place != 0 {
             return Err(format!("answer {answer} and place {place}"));
@@ -102,10 +103,10 @@ impl Side {
         Ok(())
     }
 
-    fn returned(&self) -> u32 {
+    fn returned(&self) -> u64 {
         match self.refusal {
-            0 => self.frames << 8,
-            refusal => refusal,
+            0 => u64::from(self.frames) << 8,
+            refusal => refusal.into(),
         }
     }
 }
