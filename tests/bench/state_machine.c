@@ -41,6 +41,11 @@ static uint32_t two_bytes(const uint8_t *bytes) { return (uint32_t)bytes[0] << 8
 
 static uint32_t four_bytes(const uint8_t *bytes) { return two_bytes(bytes) << 16 | two_bytes(bytes + 2); }
 
+static inline bool begins_with_sync(const uint8_t *bytes)
+{
+    return bytes[0] == SYNC && bytes[1] == SYNC && bytes[2] == SYNC;
+}
+
 /* Each bit of the byte into a cell of its own, bit 0 first. */
 static void spread(uint8_t byte, uint32_t *cells, int count)
 {
@@ -185,7 +190,7 @@ uint32_t machine_radio_read(const uint8_t *frame, size_t frame_length, size_t re
     size_t samples = 2 * receivers, slot = 3 * samples + 2, slots = PAYLOAD / slot;
     if (iq_length < samples * slots || mic_length < slots)
         return HPSDR_SHORT_BUFFER;
-    if (frame[0] != SYNC || frame[1] != SYNC || frame[2] != SYNC)
+    if (!begins_with_sync(frame))
         return HPSDR_NO_SYNC;
     /* Before the first sample is written. */
     for (size_t i = HEADER + slots * slot; i < HPSDR_FRAME; i++)
@@ -400,7 +405,7 @@ uint32_t machine_stream_feed(struct hpsdr_counts *counts, size_t counts_cells, u
         if (end - place < WINDOW)
             continue;
         const uint8_t *first = window + place;
-        if (last == THREE_BYTES && first[0] == SYNC && first[1] == SYNC && first[2] == SYNC) {
+        if (last == THREE_BYTES && begins_with_sync(first)) {
             memcpy(output + HPSDR_FRAME * frames++, first, HPSDR_FRAME);
             place += HPSDR_FRAME;
         } else {
@@ -414,4 +419,30 @@ uint32_t machine_stream_feed(struct hpsdr_counts *counts, size_t counts_cells, u
     counts->frames += frames;
     counts->total += piece_length;
     return frames << 8;
+}
+
+/* ---- the plain reader ---- */
+
+uint64_t machine_plain_read(const uint8_t *input, size_t input_length, uint8_t *output, size_t output_length)
+{
+    if (input_length > HPSDR_INPUT_MOST)
+        return HPSDR_LENGTH;
+    if (output_length < input_length)
+        return HPSDR_SHORT_BUFFER;
+    size_t place = 0;
+    uint64_t frames = 0, skipped = 0;
+    enum sync_state last = NO_BYTE;
+    for (size_t end = 1; end <= input_length; end++) {
+        last = sync_step(last, input[end - 1]);
+        if (end - place < WINDOW)
+            continue;
+        if (last == THREE_BYTES && begins_with_sync(input + place)) {
+            memcpy(output + HPSDR_FRAME * frames++, input + place, HPSDR_FRAME);
+            place += HPSDR_FRAME;
+        } else {
+            skipped++;
+            place++;
+        }
+    }
+    return frames << 8 | skipped << 32 | (uint64_t)(input_length - place) << 48;
 }

@@ -2,11 +2,11 @@
 
 /// Declares each call, and the type that it has in common with the library's.
 macro_rules! calls {
-    ($($form:ident $name:ident($($argument:ident: $type:ty),* $(,)?);)*) => {
-        $(pub type $form = unsafe extern "C" fn($($argument: $type),*) -> u32;)*
+    ($($form:ident $name:ident($($argument:ident: $type:ty),* $(,)?) -> $returned:ty;)*) => {
+        $(pub type $form = unsafe extern "C" fn($($argument: $type),*) -> $returned;)*
 
         extern "C" {
-            $(pub fn $name($($argument: $type),*) -> u32;)*
+            $(pub fn $name($($argument: $type),*) -> $returned;)*
         }
     };
 }
@@ -22,7 +22,7 @@ calls! {
         mic_length: usize,
         status: *mut u32,
         status_cells: usize,
-    );
+    ) -> u32;
     HostRead machine_host_read(
         frame: *const u8,
         frame_length: usize,
@@ -30,7 +30,7 @@ calls! {
         audio_length: usize,
         host: *mut u32,
         host_cells: usize,
-    );
+    ) -> u32;
     StreamFeed machine_stream_feed(
         counts: *mut u64,
         counts_cells: usize,
@@ -40,5 +40,11 @@ calls! {
         piece_length: usize,
         output: *mut u8,
         output_length: usize,
-    );
+    ) -> u32;
+    PlainRead machine_plain_read(
+        input: *const u8,
+        input_length: usize,
+        output: *mut u8,
+        output_length: usize,
+    ) -> u64;
 }

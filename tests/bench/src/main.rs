@@ -4,6 +4,7 @@
 mod contest;
 mod host;
 mod machine;
+mod plain;
 mod radio;
 mod stream;
 
@@ -16,7 +17,8 @@ const HEADING: &str = "\
 Times are medians. A ratio above 1 means that the library is faster. The copies are of as many bytes
 as a call takes in or gives out. The number after a radio call is its receivers; a transfer is eight
 frames, beside as many single calls; a stream's frame is 512 bytes of input, in pieces of 4,096, and
-of 512 where a call takes one frame.
+of 512 where a call takes one frame. So is a plain read's, of an input of 65,536 bytes, beside the
+stream's calls on the same from fresh, in pieces of 4,096.
 ";
 
 const COLUMNS: [&str; 7] = [
@@ -66,6 +68,9 @@ fn print_table() -> Result<(), String> {
     print_row(host::Read::entry().row()?);
     print_row(host::Build::entry().row()?);
     for entry in stream::Feed::entries() {
+        print_row(entry.row()?);
+    }
+    for entry in plain::Read::entries() {
         print_row(entry.row()?);
     }
     Ok(())

@@ -7,19 +7,19 @@ use differential::random::Random;
 use hpsdr::raw;
 use reference::Stream;
 
-const PIECE: usize = 4096;
+pub const PIECE: usize = 4096;
 const PIECES: usize = 50;
-const FRAME: usize = 512;
+pub const FRAME: usize = 512;
 const SYNC: [u8; 3] = [0x7f; 3];
 
 type Piece = Box<[u8]>;
 
 /// As many bytes as fill the pieces, so that after the last the first goes on with whole frames.
-fn noise() -> Vec<u8> {
+pub fn noise() -> Vec<u8> {
     Random::of_case(3, 0).bytes(PIECES * PIECE)
 }
 
-fn clean() -> Vec<u8> {
+pub fn clean() -> Vec<u8> {
     let mut bytes = noise();
     for frame in bytes.chunks_exact_mut(FRAME) {
         frame[..SYNC.len()].copy_from_slice(&SYNC);
@@ -28,7 +28,7 @@ fn clean() -> Vec<u8> {
 }
 
 /// Every hundredth frame has lost its sync.
-fn damaged() -> Vec<u8> {
+pub fn damaged() -> Vec<u8> {
     let mut bytes = clean();
     for frame in bytes.chunks_exact_mut(FRAME).skip(99).step_by(100) {
         frame[0] = 0;
@@ -43,7 +43,33 @@ struct Buffers<R> {
     found: u32,
 }
 
-type Cells = ([u64; COUNTS], [u8; HELD]);
+pub type Cells = ([u64; COUNTS], [u8; HELD]);
+
+pub const FRESH: Cells = ([0; COUNTS], [0; HELD]);
+
+/// Gives the number of frames handed out.
+#[inline(always)]
+pub fn feed(
+    call: machine::StreamFeed,
+    (counts, held): &mut Cells,
+    piece: &[u8],
+    output: &mut [u8],
+) -> u32 {
+    // SAFETY: the slices are whole and apart.
+    let returned = unsafe {
+        call(
+            counts.as_mut_ptr(),
+            counts.len(),
+            held.as_mut_ptr(),
+            held.len(),
+            piece.as_ptr(),
+            piece.len(),
+            output.as_mut_ptr(),
+            output.len(),
+        )
+    };
+    returned >> 8
+}
 
 impl<R> Buffers<R> {
     fn new(record: R) -> Buffers<R> {
@@ -58,21 +84,7 @@ impl<R> Buffers<R> {
 impl Buffers<Cells> {
     #[inline(always)]
     fn feed(&mut self, call: machine::StreamFeed, piece: &Piece) {
-        let (counts, held) = &mut self.record;
-        // SAFETY: the slices are whole and apart.
-        let returned = unsafe {
-            call(
-                counts.as_mut_ptr(),
-                counts.len(),
-                held.as_mut_ptr(),
-                held.len(),
-                piece.as_ptr(),
-                piece.len(),
-                self.output.as_mut_ptr(),
-                self.output.len(),
-            )
-        };
-        self.found = returned >> 8;
+        self.found = feed(call, &mut self.record, piece, &mut self.output);
     }
 }
 
@@ -85,12 +97,11 @@ pub struct Feed {
 impl Feed {
     /// The bytes out are those of the frames handed out and of the held bytes.
     fn entry(name: &str, bytes: Vec<u8>, piece: usize, bytes_out: usize) -> Entry<Feed> {
-        let fresh = ([0; COUNTS], [0; HELD]);
         Entry {
             name: format!("stream feed, {name}"),
             contest: Feed {
-                library: Buffers::new(fresh),
-                machine: Buffers::new(fresh),
+                library: Buffers::new(FRESH),
+                machine: Buffers::new(FRESH),
                 reference: Buffers::new(Stream::fresh()),
             },
             inputs: bytes.chunks_exact(piece).map(Piece::from).collect(),
@@ -142,7 +153,7 @@ impl Contest for Feed {
             output,
             found,
         } = &self.reference;
-        let (mut counts, mut held) = ([0; COUNTS], [0; HELD]);
+        let (mut counts, mut held) = FRESH;
         cells::stream_into(record, &mut counts, &mut held);
         [&self.library, &self.machine].into_iter().all(|door| {
             (door.found, &door.record, &door.output) == (*found, &(counts, held), output)
