@@ -34,9 +34,7 @@ module _ (input output : List ℕ) where
 
   pub input-too-long : 65536 < length input → plainOf input output ≡ refused Length output
   unfolding plainOf
-  input-too-long long =
-      let is : answer ≡ Length = first-here too-long (no-room ∷ []) (lt-ltb 65536 (length input) long) in
-      rw is
+  input-too-long long = rw (lt-ltb 65536 (length input) long)
 
   pub output-too-short : length input ≤ 65536 → length output < length input → plainOf input output ≡ refused ShortBuffer output
   unfolding plainOf
