@@ -503,7 +503,7 @@ static inline uint32_t hpsdr_feed(struct hpsdr_stream *stream, const uint8_t *pi
 struct hpsdr_plain {
     uint32_t got;     /* as any other call returns it: the answer, and found, which is `frames` again */
     uint32_t frames;  /* frames handed out, 0 to 127 */
-    uint32_t skipped; /* bytes skipped */
+    uint32_t skipped; /* bytes skipped, at most 65,022 */
     uint32_t left;    /* bytes left at the end of the input, at most 514 */
 };
 
@@ -513,7 +513,8 @@ struct hpsdr_plain {
  * above 65,536 bytes), SHORT_BUFFER (an output shorter than the input).
  *
  * What is returned. Bits 31 to 0 are as every other call's; found is the number of frames, 0 to 127. Bits 47 to 32 are
- * the number of bytes skipped, and bits 63 to 48 the number of bytes left, at most 514. A refusal is its number alone.
+ * the number of bytes skipped, at most 65,022, and bits 63 to 48 the number of bytes left, at most 514. A refusal is its
+ * number alone.
  *
  * What it is for. It is written to be read in a sitting, and to be held against the stream reader, whose code is harder
  * to follow. Cut an accepted input into pieces anywhere, and feed them in their order to a stream that began fresh. If

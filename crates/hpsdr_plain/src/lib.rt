@@ -4,8 +4,8 @@
 // other is compiled.
 use plain::Plain;
 ghost use mathlib.Core.Path.{_≡_};
-ghost use Prim.Native.Nat.{_≤_};
 ghost use Rattle.cells.specs.Cells.{wrote};
+ghost use Rattle.plain.specs.Plain.{Few};
 ghost use Rattle.hpsdr_plain.specs.Plain.{returnedOf, plainReadOf};
 
 #[no_mangle]
@@ -18,7 +18,7 @@ pub extern "C" fn hpsdr_plain_read(input: &[u8], output: &mut [u8]) -> u64
 // The answer in bits 7 to 0, the frames in bits 15 to 8, the bytes skipped in bits 47 to 32, the bytes left in bits
 // 63 to 48.
 pub(crate) fn returned(plain: Plain) -> u64
-    requires { ⌜ (plain .frames ≤ 127) × (plain .skipped ≤ 65533) × (plain .left ≤ 514) ⌝ }
+    requires { ⌜ Few (plain .frames) (plain .skipped) (plain .left) ⌝ }
     ensures { λ r. ⌜ r ≡ returnedOf (plain .answer) (plain .frames) (plain .skipped) (plain .left) ⌝ }
 {
     let answer = plain.answer;

@@ -1,5 +1,5 @@
 -- The reading followed place by place: what the loop keeps true, and the outcome at its end. Assumes nothing.
-use mathlib.Core.Path.{_≡_, sym, ap, _∙_, subst⁻¹}
+use mathlib.Core.Path.{_≡_, ap, _∙_, subst⁻¹}
 use mathlib.Core.Bool.{true, false}
 use mathlib.Core.List.{List}
 use Prim.Native.Nat.{ℕ, _+_, _-_, _*_, _<_, _≤_}
@@ -9,7 +9,7 @@ use lib.Seq.{sets, length-take-le}
 use Rattle.wire.specs.declared.Answer.the-variants.{Accepted}
 use Rattle.wire.proofs.Copies.{written, all-written}
 use Rattle.wire.specs.Sync.{syncAt}
-use Rattle.reading.proofs.Readings.{good-long}
+use Rattle.reading.proofs.Readings.{good-long, left-length}
 use Rattle.reading.proofs.UnderWay.{Far, far-start, far-skip, far-good, far-end}
 use Rattle.reading.specs.Reading.{good, reading}
 use Rattle.plain.specs.Plain.{gave, accepted}
@@ -48,5 +48,4 @@ module _ {input output₀ output : List ℕ} {frames skipped place : ℕ} (here 
   ends few =
       let all = far-end (here .far) few in
       let counted : skipped ≡ place - 512 * frames = omega (arith, here .place-is) in
-      let rest : length input - place ≡ length (reading input .left) = sym (length-drop place input) ∙ ap length (all .left-is) in
-      rw (counted, all .skipped-is, all .frames-is, rest, all .output-is)
+      rw (counted, all .skipped-is, all .frames-is, left-length input place (all .left-is), all .output-is)

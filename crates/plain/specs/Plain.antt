@@ -1,5 +1,5 @@
 -- T-10: an input of up to 65,536 bytes, read at once. Assumes nothing.
-use Prim.Native.Nat.{ℕ}
+use Prim.Native.Nat.{ℕ, _≤_}
 use mathlib.Core.Bool.{cond}
 use mathlib.Core.List.{List, [], _∷_, _++_}
 use lib.Dec.{ltb}
@@ -30,7 +30,7 @@ refusals input output =
     ∷ ltb (length output) (length input) gives ShortBuffer
     ∷ []
 
--- "nothing written, counts 0"
+-- "A refusal returns its number and ..; a frame count .. beside it is 0": so is each count here, and the output is the one given
 abbrev pub refused : Answer → List ℕ → Outcome
 refused refusal output = record { answer = refusal; frames = 0; skipped = 0; left = 0; output = output }
 
@@ -50,3 +50,9 @@ outcomeOf answer input output = cond (accepts answer) (accepted (reading input) 
 
 unfoldable pub plainOf : List ℕ → List ℕ → Outcome
 plainOf input output = outcomeOf (first (refusals input output)) input output
+
+-- how large the counts of a call can be
+pub record Few (frames skipped left : ℕ) : Type 0 where
+  pub frames-few : frames ≤ 127
+  pub skipped-few : skipped ≤ 65022
+  pub left-few : left ≤ 514

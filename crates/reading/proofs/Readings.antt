@@ -3,7 +3,7 @@
 use mathlib.Core.Path.{_≡_, refl, sym, ap, _∙_}
 use mathlib.Core.Bool.{true, false, true≢false, and-false}
 use mathlib.Core.List.{List, _++_, append-assoc}
-use Prim.Native.Nat.{ℕ, zero, suc, _+_, _*_, _<_, _≤_, min}
+use Prim.Native.Nat.{ℕ, zero, suc, _+_, _-_, _*_, _<_, _≤_, min}
 use native.Mathlib.Nat.{add-assoc, zero-add}
 use native.Mathlib.Omega.{arith}
 use borrow.Author.Tests.{lt-ltb, le-ltb, ltb-false}
@@ -107,6 +107,8 @@ pub record Counted (s : List ℕ) (r : Reading) : Type 0 where
   pub few : length (r .left) ≤ 514
   -- the sync after the last frame is left
   pub three : min 3 (length s) ≤ length (r .left)
+  -- to skip a byte 515 are wanted
+  pub beyond : r .skipped ≤ length s - 514
 
 pub counted : (s : List ℕ) → Counted s (reading s)
 counted =
@@ -119,6 +121,10 @@ counted =
     (λ s enough none rest. rw (reading-none s enough none) (omega (arith, length-drop 1 s)))
 
 -- ---- what is left
+
+-- how long it is, by the place where it begins
+pub left-length : (s : List ℕ) (place : ℕ) → drop place s ≡ reading s .left → length s - place ≡ length (reading s .left)
+left-length s place begins = sym (length-drop place s) ∙ ap length begins
 
 -- the place after the frames that a reading hands out and the bytes that it skips
 abbrev pub placeAfter : List ℕ → ℕ

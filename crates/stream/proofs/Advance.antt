@@ -1,14 +1,14 @@
 -- What a scan reads, and from it to the outcome of an accepted call. Assumes nothing.
-use mathlib.Core.Path.{_≡_, sym, ap, _∙_}
+use mathlib.Core.Path.{_≡_}
 use mathlib.Core.Bool.{cond, _&&_}
 use mathlib.Core.List.{List, [], _++_}
 use Prim.Native.Nat.{ℕ, _+_, _-_, _<_, _≤_}
 use native.Mathlib.Omega.{arith}
 use borrow.Author.Tests.{le-leb, lt-leb}
 use lib.Dec.{leb}
-use lib.ListN.{length, drop, length-drop}
+use lib.ListN.{length, drop}
 use Rattle.wire.specs.declared.Answer.the-variants.{Accepted}
-use Rattle.reading.proofs.Readings.{counted}
+use Rattle.reading.proofs.Readings.{counted, left-length}
 use Rattle.reading.specs.Reading.{reading}
 use Rattle.stream.specs.Record.{cells}
 use Rattle.stream.specs.Feed.{gave, accepted}
@@ -37,7 +37,7 @@ module _ (held piece output : List ℕ) where
 
 module _ {s output exit : List ℕ} {r : Scanned} (scans : Scans s output r exit) where
   rest : length s - r .place ≡ length (reading s .left)
-  rest = sym (length-drop (r .place) s) ∙ ap length (scans .left-is)
+  rest = left-length s (r .place) (scans .left-is)
 
   -- no more than a record may hold
   pub rest-few : length s ≤ r .place + 514

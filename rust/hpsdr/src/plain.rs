@@ -6,7 +6,7 @@ use crate::refusal::{found, Refusal};
 pub struct PlainReading {
     /// Frames handed out, 0 to 127.
     pub frames: usize,
-    /// Bytes skipped.
+    /// Bytes skipped, at most 65,022.
     pub skipped: usize,
     /// Bytes left at the end of the input, at most 514.
     pub left: usize,

@@ -161,7 +161,7 @@ extern "C" {
     ) -> u32;
 
     /// Reads an input of at most 65,536 bytes at once; found is the number of frames, 0 to 127. In bits 47 to 32 are the
-    /// bytes skipped, in bits 63 to 48 the bytes left, at most 514.
+    /// bytes skipped, at most 65,022, in bits 63 to 48 the bytes left, at most 514.
     pub fn hpsdr_plain_read(
         input: *const u8,
         input_length: usize,

@@ -1,9 +1,8 @@
 -- `hpsdr_plain_read` meets its contract: the plain reader, with what it gives as one number. Assumes nothing.
 use mathlib.Core.Path.{sym, ap, _∙_, subst⁻¹}
-use Prim.Native.Nat.{_≤_}
 use denote.Ref.{now}
 use Rattle.cells.specs.Cells.{wrote}
-use Rattle.plain.specs.Plain.{Outcome}
+use Rattle.plain.specs.Plain.{Outcome, Few}
 use Rattle.plain.proofs.Counts.{few}
 use Rattle.hpsdr_plain.specs.Plain.{shown}
 use Rattle.hpsdr_plain.proofs.Tells.{shown-is}
@@ -18,7 +17,7 @@ returned-requires : tie.Need-returned-requires
 returned-requires c κs =
     let read = c .before .before in
     let given = read .before .before .before .before .args in
-    subst⁻¹ (λ (o : Outcome). (o .frames ≤ 127) × (o .skipped ≤ 65533) × (o .left ≤ 514)) (read .read .ensures) (few (now (given .input)) (now (given .output)))
+    subst⁻¹ (λ (o : Outcome). Few (o .frames) (o .skipped) (o .left)) (read .read .ensures) (few (now (given .input)) (now (given .output)))
 
 same-length : tie.Need-same-length
 same-length c = search needs
