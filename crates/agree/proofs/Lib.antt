@@ -1,2 +1,3 @@
--- T-10: the plain reader held against the quick one.
+-- The plain reader held against the quick one, and what holds of it too.
 pub mod PlainAndQuick
+pub mod FoundAtOnce

@@ -4,3 +4,4 @@ pub mod Append
 pub mod InARow
 pub mod NoneGood
 pub mod UnderWay
+pub mod UpTo

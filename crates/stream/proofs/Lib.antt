@@ -11,3 +11,5 @@ pub mod Cut
 pub mod Resync
 pub mod Place
 pub mod Settled
+pub mod FoundAgain
+pub mod NoFewer

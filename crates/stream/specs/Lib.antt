@@ -3,3 +3,4 @@ pub mod Feed
 pub mod Run
 pub mod Damage
 pub mod Steps
+pub mod Clear
