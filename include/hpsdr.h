@@ -486,7 +486,14 @@ static inline int hpsdr_stream_is_sound(const struct hpsdr_stream *stream) {
  * later, a frame is taken to begin, and if none did, what is handed out is a false frame: parts of two, say, after
  * bytes were lost between. A good frame that begins inside it is then not handed out. So a frame directly before or
  * after skipped bytes, or inside which another good frame begins, is in doubt, though it may be a true one. And where
- * just 512 bytes were lost, or a multiple, there is no sign at all: no frame carries a number. */
+ * just 512 bytes were lost, or a multiple, there is no sign at all: no frame carries a number.
+ *
+ * What is promised nevertheless, of all that was fed to a stream that began fresh, whatever its bytes are. A place
+ * begins a good frame if sync stands there and again 512 bytes later. A good frame that is not handed out is overlapped
+ * by one that is, and that begins at one of the up to 511 places before it. And if place p begins a good frame and none
+ * of the up to 511 places before it does, then that frame is handed out, and so is each good frame that follows
+ * directly, in their order and unaltered; as many stand in front of it as a reading of the first p + 514 bytes hands
+ * out. That is proved, for every cutting into accepted pieces. It does not say that a frame handed out is a true one. */
 uint32_t hpsdr_stream_feed(struct hpsdr_counts *counts, size_t counts_cells, uint8_t *held, size_t held_length,
                            const uint8_t *piece, size_t piece_length, uint8_t *output, size_t output_length);
 
@@ -523,7 +530,8 @@ struct hpsdr_plain {
  * a recording.
  *
  * The last frame of a recording is among the bytes left, unless sync follows it in the input or a false frame took its
- * beginning. This and what no reader can know from the bytes are told above `hpsdr_stream_feed`, and hold here too. */
+ * beginning. This, what no reader can know from the bytes, and what is promised nevertheless are told above
+ * `hpsdr_stream_feed`, and hold here too. */
 uint64_t hpsdr_plain_read(const uint8_t *input, size_t input_length, uint8_t *output, size_t output_length);
 
 static inline struct hpsdr_plain hpsdr_plain_of(uint64_t returned) {
