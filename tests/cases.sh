@@ -256,6 +256,52 @@ mistake_below 1 plain_read.cases 'output 65535 of AA | answer 4 frames 0 skipped
     'output 65535 of AA | answer 4 frames 127 skipped 0 left 512' \
     'expected answer 4 frames 127 skipped 0 left 512; door answer 4 frames 0 skipped 0 left 0; reference answer 4 frames 0'
 
+# After a false match (T-13). Claimed are a frame that is found though a false one begins 511 places before it, whole and in
+# its place, and one byte skipped too many; a second frame that is lost where only one is; of a false frame 512 places
+# before, that it costs a frame, and that it is skipped; a frame lost to a false one that was passed by; a false frame
+# that is skipped where another ends; a frame lost behind 510 places, and one in a row of three; and, of which frame it
+# is, a number one too low and one too high, a byte skipped too few, and a number for the frame that is lost.
+mistake_below 1 stream.cases 'pieces 1026 of 1 | answer 0 frames 1' 'pieces 1026 of 1 | answer 0 frames 2' \
+    'a false frame 511 before a frame, byte by byte: expected answer 0 frames 2; door answer 0 frames 1; reference answer 0'
+mistake_below 1 stream.cases \
+    'at 4 = 2 | answer 0 frames 3 | counts from_lost511 | held sync_left | handed lost511_out' \
+    'at 4 = 2 | answer 0 frames 3 | counts from_lost511 | held sync_left | handed lost511_out put frame2 at 512' \
+    'handed[520]: expected 02; door 03; reference 03'
+mistake_below 1 plain_read.cases 'input lost511 | answer 0 frames 3 skipped 511 left 3' \
+    'input lost511 | answer 0 frames 3 skipped 512 left 3' \
+    'expected answer 0 frames 3 skipped 512 left 3; door answer 0 frames 3 skipped 511 left 3; reference answer 0 frames 3'
+mistake_below 1 plain_read.cases 'input lost1 | answer 0 frames 3 skipped 1 left 3' \
+    'input lost1 | answer 0 frames 2 skipped 513 left 3' \
+    'expected answer 0 frames 2 skipped 513 left 3; door answer 0 frames 3 skipped 1 left 3; reference answer 0 frames 3'
+mistake_below 1 stream.cases 'pieces 2 of 600 at 1 = 1027 | answer 0 frames 3' \
+    'pieces 2 of 600 at 1 = 1027 | answer 0 frames 2' \
+    'expected answer 0 frames 2; door answer 0 frames 3; reference answer 0 frames 3'
+mistake_below 1 plain_read.cases 'input before512 | answer 0 frames 3 skipped 88 left 3' \
+    'input before512 | answer 0 frames 2 skipped 600 left 3' \
+    'expected answer 0 frames 2 skipped 600 left 3; door answer 0 frames 3 skipped 88 left 3; reference answer 0 frames 3'
+mistake_below 1 plain_read.cases 'input passed_by | answer 0 frames 3 skipped 88 left 3' \
+    'input passed_by | answer 0 frames 2 skipped 600 left 3' \
+    'expected answer 0 frames 2 skipped 600 left 3; door answer 0 frames 3 skipped 88 left 3; reference answer 0 frames 3'
+mistake_below 1 stream.cases 'pieces 3 of 512 at 2 = 1215 | answer 0 frames 4' \
+    'pieces 3 of 512 at 2 = 1215 | answer 0 frames 3' \
+    'expected answer 0 frames 3; door answer 0 frames 4; reference answer 0 frames 4'
+mistake_below 1 plain_read.cases 'input from510 | answer 0 frames 2 skipped 510 left 3' \
+    'input from510 | answer 0 frames 1 skipped 1022 left 3' \
+    'expected answer 0 frames 1 skipped 1022 left 3; door answer 0 frames 2 skipped 510 left 3; reference answer 0 frames 2'
+mistake_below 1 stream.cases 'pieces 1 of 3475 | answer 0 frames 6' 'pieces 1 of 3475 | answer 0 frames 5' \
+    'expected answer 0 frames 5; door answer 0 frames 6; reference answer 0 frames 6'
+mistake_below 1 plain_read.cases 'input twice length 1326 | answer 0 frames 1 skipped 300 left 514' \
+    'input twice length 1326 | answer 0 frames 0 skipped 812 left 514' \
+    'expected answer 0 frames 0 skipped 812 left 514; door answer 0 frames 1 skipped 300 left 514; reference answer 0 frames 1'
+mistake_below 1 plain_read.cases 'input twice length 2962 | answer 0 frames 4 skipped 400 left 514' \
+    'input twice length 2962 | answer 0 frames 5 skipped 400 left 2' \
+    'expected answer 0 frames 5 skipped 400 left 2; door answer 0 frames 4 skipped 400 left 514; reference answer 0 frames 4'
+mistake_below 2 stream.cases 'counts held 514 frames 2 skipped 188 total 1726' \
+    'counts held 514 frames 2 skipped 187 total 1726' 'counts skipped: expected 187; door 188; reference 188'
+mistake_below 1 plain_read.cases 'input lost511 length 1025 | answer 0 frames 1 skipped 0 left 513' \
+    'input lost511 length 1025 | answer 0 frames 0 skipped 511 left 514' \
+    'expected answer 0 frames 0 skipped 511 left 514; door answer 0 frames 1 skipped 0 left 513; reference answer 0 frames 1'
+
 # A cell that is claimed to be as it was: in a record, past what a call writes, in a lent frame; and one that
 # is claimed to have changed after a refusal, or to be as it was after one that comes behind frames that were read.
 mistake radio_read.cases '| answer 0 word 1 | status dot 1' '| answer 0 word 1' \
@@ -367,6 +413,15 @@ must_fail host_build.cases "$(line_of host_build.cases '^build the numbers')" \
     'frame[12]: expected FF; door 00; reference 00'
 must_fail host_build.cases "$(line_of host_build.cases '^host_read the numbers back')" \
     'audio[2]: expected -1; door 3; reference 3'
+
+# A false frame that is none, in a file of parts: byte 3 of the frame that it loses is 0, and sync does not stand 512 bytes
+# after its own. As many frames are handed out and bytes skipped, but the first frame is another.
+cp "$data"/stream.cases "$data"/plain_read.cases "$room"
+awk '{ sub(/at 514 = 7F put frame3/, "put frame3") } { print }' "$data/stream.parts" >"$room/stream.parts"
+must_fail stream.cases "$(line_of stream.cases '^stream_pieces a false frame 511 before frames, whole')" \
+    'handed[3]: expected 01; door 00; reference 00'
+must_fail plain_read.cases "$(line_of plain_read.cases '^plain_read a false frame 511 before frames$')" \
+    'output[3]: expected 01; door 00; reference 00'
 
 # A level of 4096 in the record that is written.
 cp "$data"/radio_write.cases "$room"
