@@ -9,7 +9,7 @@
 #include <stdio.h>
 #include <string.h>
 
-enum { MOST_BYTES = 8192, MOST_FRAMES = 10 };
+enum { MOST_BYTES = 8192, MOST_FRAMES = 10, COUNT_OF_SIZES = 10 };
 
 struct recording {
     const char *name;
@@ -23,6 +23,7 @@ struct recording {
 };
 
 static const uint8_t sync[3] = {0x7F, 0x7F, 0x7F};
+static const size_t sizes[COUNT_OF_SIZES] = {1, 2, 3, 100, 506, 511, 512, 513, 515, 4096};
 static struct recording lost, imitated, stray;
 static uint8_t last_of_lost[HPSDR_FRAME], output[HPSDR_OUTPUT_LEAST];
 
@@ -156,12 +157,97 @@ static void test_reading_at_once(const struct recording *due) {
           due->count);
 }
 
-/* A good frame begins inside each false one, at a place that is never read. */
-static void test_good_frames_missed(void) {
-    check(memcmp(imitated.bytes + 1018, sync, 3) == 0 && memcmp(imitated.bytes + 1018 + 512, sync, 3) == 0, "imitated",
-          "no good frame begins", 1018);
-    check(memcmp(stray.bytes + 1, sync, 3) == 0 && memcmp(stray.bytes + 1 + 512, sync, 3) == 0, "stray",
-          "no good frame begins", 1);
+static int has_sync(const struct recording *in, size_t place) {
+    return place + 3 <= in->length && memcmp(in->bytes + place, sync, 3) == 0;
+}
+
+static int begins_good(const struct recording *in, size_t place) {
+    return has_sync(in, place) && has_sync(in, place + 512);
+}
+
+/* Whether none of the up to 511 places before it begins a good frame. */
+static int is_clear(const struct recording *in, size_t place) {
+    for (size_t before = place < 511 ? 0 : place - 511; before < place; before++)
+        if (begins_good(in, before))
+            return 0;
+    return 1;
+}
+
+/* A good frame begins inside each false one, at a place that is never read. It is not promised: the false one begins
+ * among the up to 511 places before it. */
+static void test_good_frame_missed(const struct recording *in, size_t place) {
+    check(begins_good(in, place), in->name, "no good frame begins", place);
+    check(!is_clear(in, place), in->name, "no good frame begins before", place);
+    for (size_t at = 0; at < in->count; at++)
+        check(in->places[at] != place, in->name, "the missed frame is among those due", at);
+}
+
+/* The number of frames of all the bytes, in pieces of a size. */
+static size_t read_in_pieces(const struct recording *in, size_t size, uint8_t frames[MOST_BYTES]) {
+    struct hpsdr_stream stream;
+    size_t seen = 0;
+    memset(frames, 0, MOST_BYTES);
+    hpsdr_stream_init(&stream);
+    for (size_t fed = 0; fed < in->length;) {
+        const size_t length = size < in->length - fed ? size : in->length - fed;
+        const uint32_t found = feed(&stream, in->bytes + fed, length);
+        fed += length;
+        if (seen + found > in->count) {
+            check(0, in->name, "there is a frame more", seen + found);
+            return seen;
+        }
+        memcpy(frames + HPSDR_FRAME * seen, output, HPSDR_FRAME * found);
+        seen += found;
+    }
+    return seen;
+}
+
+/* A place that is clear, which of the frames is the one there, and how many good ones stand in a row from it on. */
+struct found_again {
+    size_t place, number, row;
+};
+
+static void check_row(const struct recording *in, const struct found_again *due, const uint8_t *frames, size_t count) {
+    const size_t before = HPSDR_FRAME * due->number, length = HPSDR_FRAME * due->row;
+    check(due->number + due->row <= count, in->name, "fewer frames are handed out", count);
+    check(memcmp(frames + before, in->bytes + due->place, length) == 0, in->name, "what is found again is another",
+          due->place);
+}
+
+/* Up to 514 bytes behind the place, the reading comes just to it: what it hands out is what stands before. */
+static void check_number(const struct recording *in, const struct found_again *due, const uint8_t *frames) {
+    static uint8_t before[MOST_BYTES];
+    const struct hpsdr_plain plain = hpsdr_read_at_once(in->bytes, due->place + 514, before);
+    check(hpsdr_answer_of(plain.got) == HPSDR_ACCEPTED, in->name, "its beginning is refused", due->place);
+    check(plain.frames == due->number, in->name, "there are more or fewer frames before", due->place);
+    check(512 * plain.frames + plain.skipped == due->place, in->name, "the reading does not come to", due->place);
+    check(plain.left == 514, in->name, "there are not 514 bytes left from", due->place);
+    check(memcmp(before, frames, HPSDR_FRAME * due->number) == 0, in->name, "other frames stand before", due->place);
+}
+
+static void test_found_again(const struct recording *in, size_t place, size_t number, size_t row) {
+    static uint8_t frames[MOST_BYTES];
+    const struct found_again due = {place, number, row};
+    check(is_clear(in, place), in->name, "a good frame begins before", place);
+    for (size_t at = 0; at < row; at++)
+        check(begins_good(in, place + 512 * at), in->name, "no good frame begins", place + 512 * at);
+    check(!begins_good(in, place + 512 * row), in->name, "the row goes on", place);
+    check_row(in, &due, frames, hpsdr_read_at_once(in->bytes, in->length, frames).frames);
+    check_number(in, &due, frames);
+    for (size_t at = 0; at < COUNT_OF_SIZES; at++) {
+        check_row(in, &due, frames, read_in_pieces(in, sizes[at], frames));
+        check_number(in, &due, frames);
+    }
+}
+
+/* In `imitated` frame 0 and the false one come before the frame at 1,530, and in `stray` the false one alone before
+ * that at 513. In `lost`, where no frame is false, 4 come before the 6 from 2,554 on. */
+static void test_after_a_false_match(void) {
+    test_good_frame_missed(&imitated, 1018);
+    test_good_frame_missed(&stray, 1);
+    test_found_again(&imitated, 1530, 2, 1);
+    test_found_again(&stray, 513, 1, 1);
+    test_found_again(&lost, 2554, 4, 6);
 }
 
 /* Feeds the recording `lost` but for the byte at a place, or all of it. */
@@ -227,7 +313,6 @@ static void load(struct recording *recording, const char *name, const char *path
 }
 
 int main(int count, char **arguments) {
-    static const size_t sizes[] = {1, 2, 3, 100, 506, 511, 512, 513, 515, 4096};
     if (count != 4) {
         fputs("usage: recordings LOST IMITATED STRAY\n", stderr);
         return 2;
@@ -240,7 +325,7 @@ int main(int count, char **arguments) {
     expect_lost();
     expect_imitated();
     expect_stray();
-    for (size_t at = 0; at < sizeof sizes / sizeof *sizes; at++) {
+    for (size_t at = 0; at < COUNT_OF_SIZES; at++) {
         test_reading(&lost, sizes[at]);
         test_reading(&imitated, sizes[at]);
         test_reading(&stray, sizes[at]);
@@ -248,7 +333,7 @@ int main(int count, char **arguments) {
     test_reading_at_once(&lost);
     test_reading_at_once(&imitated);
     test_reading_at_once(&stray);
-    test_good_frames_missed();
+    test_after_a_false_match();
     test_last_frame();
     test_unwhole_last_frame();
     test_longer_piece();
