@@ -122,25 +122,36 @@ static void check_place(const struct recording *due, const struct hpsdr_stream *
     check(memcmp(output, due->bytes + place, HPSDR_FRAME) == 0, due->name, "these bytes are not at its place", number);
 }
 
-static void test_reading(const struct recording *due, size_t size) {
-    struct hpsdr_stream stream;
+/* Feeds all the bytes in pieces of a size, and gives the number of frames. Where a call hands out at most one, its
+ * place is looked at too. */
+static size_t read_in_pieces(const struct recording *in, size_t size, struct hpsdr_stream *stream,
+                             uint8_t frames[MOST_BYTES]) {
     size_t seen = 0;
-    hpsdr_stream_init(&stream);
-    for (size_t fed = 0; fed < due->length;) {
-        const size_t length = size < due->length - fed ? size : due->length - fed;
-        const uint32_t found = feed(&stream, due->bytes + fed, length);
+    memset(frames, 0, MOST_BYTES);
+    hpsdr_stream_init(stream);
+    for (size_t fed = 0; fed < in->length;) {
+        const size_t length = size < in->length - fed ? size : in->length - fed;
+        const uint32_t found = feed(stream, in->bytes + fed, length);
         fed += length;
-        if (seen + found > due->count) {
-            check(0, due->name, "there is a frame more", seen + found);
-            return;
+        if (seen + found > in->count) {
+            check(0, in->name, "there is a frame more", seen + found);
+            return seen;
         }
-        for (uint32_t at = 0; at < found; at++)
-            check(memcmp(output + HPSDR_FRAME * at, due->frames[seen + at], HPSDR_FRAME) == 0, due->name,
-                  "the frame is another", seen + at);
+        memcpy(frames + HPSDR_FRAME * seen, output, HPSDR_FRAME * found);
         if (found > 0 && size <= 512)
-            check_place(due, &stream, seen);
+            check_place(in, stream, seen);
         seen += found;
     }
+    return seen;
+}
+
+static void test_reading(const struct recording *due, size_t size) {
+    static uint8_t frames[MOST_BYTES];
+    struct hpsdr_stream stream;
+    const size_t seen = read_in_pieces(due, size, &stream, frames);
+    for (size_t at = 0; at < seen; at++)
+        check(memcmp(frames + HPSDR_FRAME * at, due->frames[at], HPSDR_FRAME) == 0, due->name, "the frame is another",
+              at);
     check_counts(&stream, due->name, due->held, due->count, due->skipped, due->length);
     check(memcmp(stream.held, due->bytes + due->length - due->held, (size_t)due->held) == 0, due->name,
           "the held bytes are not the last ones", size);
@@ -182,26 +193,6 @@ static void test_good_frame_missed(const struct recording *in, size_t place) {
         check(in->places[at] != place, in->name, "the missed frame is among those due", at);
 }
 
-/* The number of frames of all the bytes, in pieces of a size. */
-static size_t read_in_pieces(const struct recording *in, size_t size, uint8_t frames[MOST_BYTES]) {
-    struct hpsdr_stream stream;
-    size_t seen = 0;
-    memset(frames, 0, MOST_BYTES);
-    hpsdr_stream_init(&stream);
-    for (size_t fed = 0; fed < in->length;) {
-        const size_t length = size < in->length - fed ? size : in->length - fed;
-        const uint32_t found = feed(&stream, in->bytes + fed, length);
-        fed += length;
-        if (seen + found > in->count) {
-            check(0, in->name, "there is a frame more", seen + found);
-            return seen;
-        }
-        memcpy(frames + HPSDR_FRAME * seen, output, HPSDR_FRAME * found);
-        seen += found;
-    }
-    return seen;
-}
-
 /* A place that is clear, which of the frames is the one there, and how many good ones stand in a row from it on. */
 struct found_again {
     size_t place, number, row;
@@ -227,6 +218,7 @@ static void check_number(const struct recording *in, const struct found_again *d
 
 static void test_found_again(const struct recording *in, size_t place, size_t number, size_t row) {
     static uint8_t frames[MOST_BYTES];
+    struct hpsdr_stream stream;
     const struct found_again due = {place, number, row};
     check(is_clear(in, place), in->name, "a good frame begins before", place);
     for (size_t at = 0; at < row; at++)
@@ -235,7 +227,7 @@ static void test_found_again(const struct recording *in, size_t place, size_t nu
     check_row(in, &due, frames, hpsdr_read_at_once(in->bytes, in->length, frames).frames);
     check_number(in, &due, frames);
     for (size_t at = 0; at < COUNT_OF_SIZES; at++) {
-        check_row(in, &due, frames, read_in_pieces(in, sizes[at], frames));
+        check_row(in, &due, frames, read_in_pieces(in, sizes[at], &stream, frames));
         check_number(in, &due, frames);
     }
 }
