@@ -4,7 +4,9 @@
 mod across;
 mod case;
 mod flaw;
+mod found;
 mod host;
+mod imitated;
 mod levels;
 mod options;
 mod plain;
@@ -22,6 +24,7 @@ use across::{Theme, FRAMES_CUT, SINGLE, SYNCS_CUT};
 use case::{made, Call, Case, Draw, Part};
 use differential::{both, cells, lent, model, random};
 use flaw::Flaw;
+use found::{Found, CLEAR};
 use lent::Guards;
 use options::{Options, USAGE};
 use random::Random;
@@ -79,6 +82,16 @@ fn across(run: Run) -> Result<(), Differs> {
     Ok(())
 }
 
+/// The readings around clear places, and the good frames that were not handed out.
+fn count_found(tally: &mut Tally, found: &Found) {
+    for clear in &found.clear {
+        let lines = lines(plain::Read::CALL, CLEAR, |part| (part.holds)(clear));
+        tally.count(&lines, clear.up_to);
+        tally.count(&[plain::Read::CALL], clear.behind);
+    }
+    tally.count_lost(&found.lost);
+}
+
 fn whole(run: Run, stream: whole::Stream) -> Result<(), Differs> {
     let mut draw = Draw {
         random: run.random,
@@ -92,8 +105,10 @@ fn whole(run: Run, stream: whole::Stream) -> Result<(), Differs> {
     let at_once = ran.at_once;
     let lines = lines(plain::Read::CALL, AT_ONCE, |part| (part.holds)(&at_once));
     run.tally.count(&lines, at_once.returned);
+    count_found(run.tally, &ran.found);
     run.tally.wholes += 1;
     run.tally.demanded += u64::from(ran.demanded);
+    run.tally.promised += u64::from(ran.found.speaks && !ran.demanded);
     run.tally.count_across(run.theme, &ran.across);
     Ok(())
 }
@@ -140,6 +155,12 @@ const KINDS: &[Kind] = &[
     Kind {
         run: |run| whole(run, whole::run_any),
         lines: || lines(plain::Read::CALL, AT_ONCE, |_| true),
+        ..kind::<plain::Read>(1)
+    },
+    // Some twenty calls each.
+    Kind {
+        run: |run| whole(run, whole::run_imitated),
+        lines: || lines(plain::Read::CALL, CLEAR, |_| true),
         ..kind::<plain::Read>(1)
     },
     // Some sixty calls each.

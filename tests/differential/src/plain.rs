@@ -4,6 +4,7 @@ use crate::across::SYNC_BYTES;
 use crate::both;
 use crate::case::{outcome, Call, Case, Draw, Outcome, Part, Twist};
 use crate::lent::Guards;
+use crate::model::Parts;
 use crate::text::{frames, laid, stretch, text};
 use crate::twist::{damage, resize, slice_length, FRAME, SYNC};
 
@@ -48,6 +49,13 @@ pub fn read(input: &[u8], output: &[u8], guards: &Guards) -> Result<(u64, Vec<u8
     let both = both::plain_read(&mut input, &mut output);
     let returned = outcome(both, &[&input, &output])?;
     Ok((returned, output.left().to_vec()))
+}
+
+/// Reads a whole input. Gives what the library returned, and the frames that it handed out.
+pub fn frames_of(input: &[u8], guards: &Guards) -> Result<(u64, Vec<u8>), String> {
+    let (returned, mut output) = read(input, &vec![0xee; input.len()], guards)?;
+    output.truncate(Parts::of(returned).found as usize * FRAME);
+    Ok((returned, output))
 }
 
 pub struct Read {

@@ -1,9 +1,10 @@
-//! How many calls were made, how many of each answer came, of each place that a refusal says, and of each way that a
-//! frame lies across a join.
+//! How many calls were made, how many of each answer came, of each place that a refusal says, of each way that a frame
+//! lies across a join, and of each distance at which a good frame is lost.
 
 use crate::across::{Across, Cut, Theme, SYNC_BYTES};
 use crate::case::Call;
 use crate::flaw::Flaw;
+use crate::twist::FRAME;
 use std::collections::BTreeMap;
 use std::fmt;
 
@@ -21,10 +22,14 @@ pub struct Tally {
     flaws: BTreeMap<(&'static str, Flaw), u64>,
     /// How often a frame lay so across a join, by the theme.
     across: BTreeMap<(&'static str, Across), u64>,
+    /// How often a good frame was not handed out, by how far inside one that was it begins: the last that does.
+    lost: BTreeMap<usize, u64>,
     pub calls: u64,
     pub wholes: u64,
     /// Of those, how many demand 3 spoke of.
     pub demanded: u64,
+    /// And how many T-13 spoke of, and demand 3 did not.
+    pub promised: u64,
 }
 
 impl Tally {
@@ -39,6 +44,7 @@ impl Tally {
             across: themes
                 .flat_map(|theme| theme.must_come().map(|across| ((theme.name, across), 0)))
                 .collect(),
+            lost: (1..FRAME).map(|distance| (distance, 0)).collect(),
             ..Tally::default()
         };
         for call in calls {
@@ -67,6 +73,12 @@ impl Tally {
         }
     }
 
+    pub fn count_lost(&mut self, distances: &[usize]) {
+        for &distance in distances {
+            *self.lost.entry(distance).or_default() += 1;
+        }
+    }
+
     /// Counts one call, in its line and in those of its parts.
     pub fn count(&mut self, lines: &[Call], returned: u64) {
         for call in lines {
@@ -91,6 +103,14 @@ impl Tally {
         let missing = self.across.iter().filter(|(_, came)| **came == 0);
         faults
             .extend(missing.map(|((theme, across), _)| format!("{theme}: {across}, came 0 times")));
+        let odd = (self.lost.iter())
+            .filter(|(distance, came)| (1..FRAME).contains(*distance) != (**came > 0));
+        faults.extend(odd.map(|(distance, came)| {
+            format!("a good frame lost at distance {distance} came {came} times")
+        }));
+        if self.promised == 0 {
+            faults.push("T-13 spoke of no whole stream that demand 3 does not speak of".into());
+        }
         if self.demanded == 0 || self.demanded == self.wholes {
             faults.push(format!(
                 "demand 3 spoke of {} whole streams of {}",
@@ -127,6 +147,20 @@ impl Tally {
             writeln!(f, "- {line:40}{places:>9}{made:>9}{fewest:>9}")?;
         }
         Ok(())
+    }
+
+    fn write_lost(&self, f: &mut fmt::Formatter) -> fmt::Result {
+        let title = "good frames that are not handed out";
+        writeln!(
+            f,
+            "{title:42}{:>9}{:>9}{:>9}",
+            "distances", "made", "fewest"
+        )?;
+        let line = "the last inside one that is";
+        let distances = self.lost.values().filter(|came| **came > 0).count();
+        let made = self.lost.values().sum::<u64>();
+        let fewest = self.lost.values().min().copied().unwrap_or_default();
+        writeln!(f, "- {line:40}{distances:>9}{made:>9}{fewest:>9}")
     }
 
     /// A line for each cut of a theme: how often a good frame lay so, and a near miss by each of the sync bytes.
@@ -167,10 +201,11 @@ impl fmt::Display for Tally {
         writeln!(f, "{:26}{:>10}", "in all", self.calls)?;
         self.write_flaws(f)?;
         self.write_across(f)?;
-        let (wholes, demanded) = (self.wholes, self.demanded);
+        self.write_lost(f)?;
+        let (wholes, demanded, promised) = (self.wholes, self.demanded, self.promised);
         write!(
             f,
-            "whole streams: {wholes}, of which demand 3 speaks of {demanded}"
+            "whole streams: {wholes}, of which demand 3 speaks of {demanded}, and T-13 of {promised} others"
         )
     }
 }

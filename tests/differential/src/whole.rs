@@ -2,10 +2,13 @@
 //! call, demand 3 is stated directly, of what was put in: where good frames are followed by a middle of
 //! which no place begins a good frame, and that by good frames and sync, then in every cutting just
 //! those frames come out, and the skipped count is the middle's length. So is request T-10: the plain
-//! reader gives of all the bytes at once what the stream reader gave of the pieces.
+//! reader gives of all the bytes at once what the stream reader gave of the pieces. So is request T-13,
+//! of every stream, whatever its bytes are.
 
 use crate::across::{Across, Reading};
 use crate::case::{Draw, Outcome, Part};
+use crate::found::{self, begins_good_frame, good_places, Found};
+use crate::imitated;
 use crate::lent::Guards;
 use crate::model::Parts;
 use crate::plain;
@@ -31,6 +34,8 @@ pub struct Ran {
     pub at_once: AtOnce,
     /// Whether demand 3 spoke of it.
     pub demanded: bool,
+    /// What T-13 was held to.
+    pub found: Found,
     /// How its frames lay across joins. Where demand 3 does not speak, frames come by chance, and do not count.
     pub across: Vec<Across>,
 }
@@ -76,8 +81,14 @@ pub type Stream = fn(&mut Draw, &Guards) -> Result<Ran, String>;
 
 impl Whole {
     fn of(before: usize, length: usize, after: usize, draw: &mut Draw) -> Whole {
+        let middle = stretch(length, draw);
+        Whole::around(middle, before, after, draw)
+    }
+
+    fn around(middle: Vec<u8>, before: usize, after: usize, draw: &mut Draw) -> Whole {
+        let length = middle.len();
         let mut bytes = frames(before, draw);
-        bytes.extend(stretch(length, draw));
+        bytes.extend(middle);
         bytes.extend(frames(after, draw));
         bytes.extend(SYNC);
         if before > 0 {
@@ -106,6 +117,13 @@ impl Whole {
         Whole::of(before, length, 1, draw)
     }
 
+    /// One in whose middle frames are imitated.
+    fn imitated(draw: &mut Draw) -> Whole {
+        let middle = imitated::middle(draw);
+        let (before, after) = (draw.random.below(3), 1 + draw.random.below(3));
+        Whole::around(middle, before, after, draw)
+    }
+
     /// The places of the syncs: of the first frames, with the one after them, and of those after the middle.
     fn syncs(&self) -> Vec<usize> {
         let first = (0..self.before + 1).step_by(FRAME);
@@ -115,14 +133,9 @@ impl Whole {
         syncs
     }
 
-    fn begins_good_frame(&self, place: usize) -> bool {
-        let sync_at = |place: usize| self.bytes[place..].starts_with(&SYNC);
-        place + FRAME < self.bytes.len() && sync_at(place) && sync_at(place + FRAME)
-    }
-
     /// Demand 3's premise: no place of the middle begins a good frame. (It may, by imitation.)
     fn middle_is_bad(&self) -> bool {
-        (0..self.middle).all(|place| !self.begins_good_frame(self.before + place))
+        (0..self.middle).all(|place| !begins_good_frame(&self.bytes, self.before + place))
     }
 
     /// Demand 3's promise, of all that was handed out and of the skipped count.
@@ -155,8 +168,8 @@ impl Whole {
     }
 
     /// Feeds it in pieces that end at the given places.
-    fn run_to(&self, ends: Vec<usize>, guards: &Guards) -> Result<Ran, String> {
-        self.run(pieces_to(ends, self.bytes.len()), guards)
+    fn run_to(&self, ends: Vec<usize>, draw: &mut Draw, guards: &Guards) -> Result<Ran, String> {
+        self.run(pieces_to(ends, self.bytes.len()), draw, guards)
     }
 
     fn across(&self, pieces: &[usize]) -> Vec<Across> {
@@ -169,7 +182,7 @@ impl Whole {
         reading.across
     }
 
-    fn run(&self, pieces: Vec<usize>, guards: &Guards) -> Result<Ran, String> {
+    fn run(&self, pieces: Vec<usize>, draw: &mut Draw, guards: &Guards) -> Result<Ran, String> {
         let fed = Fed::of(&self.bytes, &pieces, guards)?;
         let demanded = self.middle_is_bad();
         let mut across = Vec::new();
@@ -177,7 +190,7 @@ impl Whole {
             self.check(&fed.handed_out, fed.feed.skipped())?;
             across = self.across(&pieces);
         }
-        let ran = fed.ran(&self.bytes, pieces, guards)?;
+        let ran = fed.ran(&self.bytes, pieces, draw, guards)?;
         Ok(Ran {
             demanded,
             across,
@@ -214,15 +227,9 @@ impl Fed {
 
     /// T-10, of the same bytes.
     fn check(&self, bytes: &[u8], guards: &Guards) -> Outcome {
-        let read = plain::read(bytes, &vec![0xee; bytes.len()], guards);
-        let (returned, output) = read.map_err(|difference| format!("all at once: {difference}"))?;
-        let Parts {
-            found,
-            skipped,
-            left,
-            ..
-        } = Parts::of(returned);
-        let frames = &output[..found as usize * FRAME];
+        let read = plain::frames_of(bytes, guards);
+        let (returned, frames) = read.map_err(|difference| format!("all at once: {difference}"))?;
+        let Parts { skipped, left, .. } = Parts::of(returned);
         let left = &bytes[bytes.len() - left as usize..];
         let same = [
             ("frames", frames == self.handed_out),
@@ -235,13 +242,20 @@ impl Fed {
         }
     }
 
-    /// One that demand 3 does not speak of.
-    fn ran(self, bytes: &[u8], pieces: Vec<usize>, guards: &Guards) -> Result<Ran, String> {
+    /// One that demand 3 does not speak of. T-13 is said of both readers: they handed out the same.
+    fn ran(
+        self,
+        bytes: &[u8],
+        pieces: Vec<usize>,
+        draw: &mut Draw,
+        guards: &Guards,
+    ) -> Result<Ran, String> {
         let returned = self.check(bytes, guards)?;
         Ok(Ran {
             returned: self.returned,
             at_once: AtOnce { returned, pieces },
             demanded: false,
+            found: found::check(bytes, &self.handed_out, draw, guards)?,
             across: Vec::new(),
         })
     }
@@ -276,19 +290,33 @@ fn frame_edges(whole: &Whole, draw: &mut Draw) -> Vec<usize> {
 
 /// Each sync after its first byte, after its second, or after both; or only each second sync. A piece then has the sync
 /// behind it too, and one call hands out the frame whose far sync is cut and the frame whose near sync that is.
-fn in_syncs(whole: &Whole, turn: usize) -> Vec<usize> {
+fn in_syncs(syncs: Vec<usize>, turn: usize) -> Vec<usize> {
     let cuts: &[usize] = [&[1][..], &[2], &[1, 2]][turn % 3];
     let (first, step) = [(0, 1), (0, 2), (1, 2)][turn / 3 % 3];
-    let syncs = whole.syncs().into_iter().skip(first).step_by(step);
+    let syncs = syncs.into_iter().skip(first).step_by(step);
     syncs
         .flat_map(|sync| cuts.iter().map(move |cut| sync + cut))
         .collect()
 }
 
 /// Each frame at the same place, every one of which has its turn.
-fn in_frames(whole: &Whole, turn: usize) -> Vec<usize> {
-    let syncs = whole.syncs().into_iter();
+fn in_frames(syncs: Vec<usize>, turn: usize) -> Vec<usize> {
+    let syncs = syncs.into_iter();
     syncs.map(|sync| sync + turn % FRAME).collect()
+}
+
+/// Each byte from somewhat before a sync to somewhat behind it.
+fn around_sync(syncs: Vec<usize>, draw: &mut Draw) -> Vec<usize> {
+    let sync = draw.random.pick(&syncs);
+    (sync.saturating_sub(4)..sync + 8).collect()
+}
+
+/// At most sixteen places of frames, true and imitated.
+fn some_good_places(whole: &Whole, draw: &mut Draw) -> Vec<usize> {
+    let good = good_places(&whole.bytes);
+    let step = good.len().div_ceil(16);
+    let first = draw.random.below(step);
+    good.into_iter().skip(first).step_by(step).collect()
 }
 
 /// They are fewer than so many bytes apart.
@@ -304,13 +332,13 @@ fn random_ends(length: usize, most: usize, draw: &mut Draw) -> Vec<usize> {
 /// A whole stream whose syncs are cut.
 pub fn run_in_syncs(draw: &mut Draw, guards: &Guards) -> Result<Ran, String> {
     let whole = Whole::drawn(draw);
-    whole.run_to(in_syncs(&whole, draw.turn), guards)
+    whole.run_to(in_syncs(whole.syncs(), draw.turn), draw, guards)
 }
 
 /// A whole stream whose frames are cut.
 pub fn run_in_frames(draw: &mut Draw, guards: &Guards) -> Result<Ran, String> {
     let whole = Whole::drawn(draw);
-    whole.run_to(in_frames(&whole, draw.turn), guards)
+    whole.run_to(in_frames(whole.syncs(), draw.turn), draw, guards)
 }
 
 /// A whole stream, in a cutting of which every kind has its turn.
@@ -331,7 +359,38 @@ pub fn run(draw: &mut Draw, guards: &Guards) -> Result<Ran, String> {
             random_ends(length, most, draw)
         }
     };
-    whole.run_to(ends, guards)
+    whole.run_to(ends, draw, guards)
+}
+
+/// A short stream in whose middle a frame is imitated, byte by byte.
+fn run_imitated_bytes(draw: &mut Draw, guards: &Guards) -> Result<Ran, String> {
+    let middle = imitated::short_middle(draw);
+    let whole = Whole::around(middle, 0, 1, draw);
+    whole.run_to((1..whole.bytes.len()).collect(), draw, guards)
+}
+
+/// A whole stream in whose middle frames are imitated, in a cutting of any kind.
+pub fn run_imitated(draw: &mut Draw, guards: &Guards) -> Result<Ran, String> {
+    if draw.turn % 512 == 511 {
+        return run_imitated_bytes(draw, guards);
+    }
+    let whole = Whole::imitated(draw);
+    let length = whole.bytes.len();
+    let good = some_good_places(&whole, draw);
+    let any = draw.random.below(length);
+    let ends = match draw.random.below(8) {
+        0 => Vec::new(),
+        1 => vec![any],
+        2 => frame_edges(&whole, draw),
+        3 => in_syncs(good, any),
+        4 => in_frames(good, any),
+        5 => around_sync(good, draw),
+        _ => {
+            let most = draw.random.pick(&[1000, 2 * PIECE_MOST]);
+            random_ends(length, most, draw)
+        }
+    };
+    whole.run_to(ends, draw, guards)
 }
 
 /// Bytes of any kind and length that the plain reader takes, in any cutting.
@@ -341,5 +400,5 @@ pub fn run_any(draw: &mut Draw, guards: &Guards) -> Result<Ran, String> {
     let most = draw.random.pick(&[some_sixty, 600, 8 * PIECE_MOST]);
     let ends = random_ends(bytes.len(), most, draw);
     let pieces = pieces_to(ends, bytes.len());
-    Fed::of(&bytes, &pieces, guards)?.ran(&bytes, pieces, guards)
+    Fed::of(&bytes, &pieces, guards)?.ran(&bytes, pieces, draw, guards)
 }
