@@ -10,20 +10,24 @@ use lib.ListN.{length, take, drop, length-take, length-drop, take-append-drop}
 use lib.Seq.{length-take-le, take-take, drop-drop, drop-append-le}
 use Rattle.wire.proofs.Cases.{by-test, by-order}
 use Rattle.reading.proofs.Append.{reading-append}
-use Rattle.reading.proofs.Readings.{good-append, good-drop, reading-few, reading-good, reading-none, counted, left-is}
+use Rattle.reading.proofs.Readings.{good-append, good-drop, reading-few, reading-good, reading-none, counted, placeAfter, left-is}
 use Rattle.reading.specs.Reading.{good, Reading, leaving, frame, skip, _andThen_, reading}
 use Rattle.reading.specs.UpTo.{upTo, Comes, GoesPast}
 
--- from a place that it comes to, the reading goes on as a reading of the bytes from there on
-pub comes-then : (s : List ℕ) (p : ℕ) → Comes s p → reading s ≡ upTo p s andThen reading (drop p s)
-comes-then s p comes =
+-- whatever p is, the reading of s begins so, and goes on where that ends
+pub begins-so : (s : List ℕ) (p : ℕ) → reading s ≡ upTo p s andThen reading (drop (placeAfter (take (p + 514) s)) s)
+begins-so s p =
     let front = take (p + 514) s in
     let back = drop (p + 514) s in
+    let end = placeAfter front in
     let both : front ++ back ≡ s = take-append-drop (p + 514) s in
     let counts = counted front in
-    let inside : drop p s ≡ drop p front ++ back = sym (ap (drop p) both) ∙ drop-append-le p front back (omega arith) in
-    let left : upTo p s .left ≡ drop p front = left-is front ∙ ap (λ n. drop n front) (comes .end-is) in
-    sym (ap reading both) ∙ reading-append front back ∙ rw (inside, left)
+    let inside : drop end s ≡ drop end front ++ back = sym (ap (drop end) both) ∙ drop-append-le end front back (omega arith) in
+    sym (ap reading both) ∙ reading-append front back ∙ rw (inside, left-is front)
+
+-- so from a place that it comes to, it goes on as a reading of the bytes from there on
+pub comes-then : (s : List ℕ) (p : ℕ) → Comes s p → reading s ≡ upTo p s andThen reading (drop p s)
+comes-then s p comes = begins-so s p ∙ ap (λ end. upTo p s andThen reading (drop end s)) (comes .end-is)
 
 -- one step more, of k bytes, among the bytes before p + k and 514 more
 goes-on : (s : List ℕ) (p k : ℕ) (first : Reading) → Comes s p → p + k + 514 ≤ length s → 512 * first .frames + first .skipped ≡ k → (let t = take (p + k + 514) s in reading (drop p t) ≡ first andThen reading (drop k (drop p t))) → Comes s (p + k)
