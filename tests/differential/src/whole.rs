@@ -212,10 +212,13 @@ impl Fed {
         let (mut returned, mut rest) = (Vec::with_capacity(pieces.len()), bytes);
         for &length in pieces {
             let (piece, later) = rest.split_at(length);
-            let answer = feed.step(piece, guards)?;
-            let frames = Parts::of(answer).found as usize;
-            handed_out.extend_from_slice(feed.frames(frames));
-            returned.push(answer);
+            let got = feed.step(piece, guards)?;
+            let Parts { answer, found, .. } = Parts::of(got);
+            if answer != 0 {
+                return Err(format!("a piece of {length} bytes is refused: {answer}"));
+            }
+            handed_out.extend_from_slice(feed.frames(found as usize));
+            returned.push(got);
             rest = later;
         }
         Ok(Fed {
