@@ -4,7 +4,7 @@ use mathlib.Core.Path.{_≡_, refl, sym, ap, _∙_}
 use mathlib.Core.Bool.{true, false, true≢false, and-false}
 use mathlib.Core.List.{List, _++_, append-assoc}
 use Prim.Native.Nat.{ℕ, zero, suc, _+_, _-_, _*_, _<_, _≤_, min}
-use native.Mathlib.Nat.{add-assoc, zero-add}
+use native.Mathlib.Nat.{add-assoc, add-zero, zero-add}
 use native.Mathlib.Omega.{arith}
 use borrow.Author.Tests.{lt-ltb, le-ltb, ltb-false}
 use lib.Dec.{ltb}
@@ -29,6 +29,9 @@ good-append x y p inside = rw (sync-append x y p (omega arith), sync-append x y 
 
 pub good-drop : (k : ℕ) (s : List ℕ) (p : ℕ) → good (drop k s) p ≡ good s (k + p)
 good-drop k s p = rw (sync-drop k s p, sync-drop k s (p + 512), add-assoc k p 512)
+
+pub good-here : (s : List ℕ) (p : ℕ) → good (drop p s) 0 ≡ good s p
+good-here s p = good-drop p s 0 ∙ ap (good s) (add-zero p)
 
 -- ---- one reading and then another
 

@@ -11,7 +11,7 @@ use Rattle.wire.proofs.Cases.{by-order}
 use Rattle.wire.proofs.Copies.{take-sets, drop-sets}
 use Rattle.reading.proofs.InARow.{skips, skips-in-a-row}
 use Rattle.reading.proofs.NoneGood.{NoneGood, none-yet, one-more}
-use Rattle.reading.proofs.Readings.{good-long, good-drop, leaving-then, reading-on, reading-few, reading-good}
+use Rattle.reading.proofs.Readings.{good-long, good-drop, good-here, leaving-then, reading-on, reading-few, reading-good}
 use Rattle.reading.specs.Reading.{good, Reading, leaving, frame, _andThen_, reading}
 
 -- what has been read at a place: the frames stand at the start of the output, and what is no frame was skipped
@@ -39,9 +39,6 @@ far-start s output =
     record { so-far = sym (leaving-then [] (reading s)); in-list = omega arith; whole = omega arith; remainder = refl; as-long = refl; room = omega arith }
 
 module _ {s output₀ output : List ℕ} {frames place : ℕ} (far : Far s output₀ output frames place) where
-  here : good (drop place s) 0 ≡ good s place
-  here = good-drop place s 0 ∙ ap (good s) (add-zero place)
-
   -- one step more, of k bytes
   on : (first : Reading) (k : ℕ) (next : Reading) → reading (drop place s) ≡ first andThen reading (drop k (drop place s)) → soFar output frames place andThen first ≡ next → reading s ≡ next andThen reading (drop (place + k) s)
   on first k next step more =
@@ -77,9 +74,9 @@ module _ {s output₀ output : List ℕ} {frames place : ℕ} (far : Far s outpu
 
   -- the bytes from the place to 512 past it, behind those that stand at the start of the output
   pub far-good : good s place ≡ true → 512 * frames + 512 ≤ length output → Far s output₀ (sets output (512 * frames) (take 512 (drop place s))) (frames + 1) (place + 512)
-  far-good good-here room =
+  far-good begins room =
       let bytes = take 512 (drop place s) in
-      let long = good-long s place good-here in
+      let long = good-long s place begins in
       let all : length bytes ≡ 512 = length-take-le 512 (drop place s) (rw (length-drop place s) (omega arith)) in
       let next : 512 * (frames + 1) ≡ 512 * frames + 512 = omega arith in
       let none : place - 512 * frames + 0 ≡ place + 512 - (512 * frames + 512) = omega (arith, far .whole) in
@@ -90,7 +87,7 @@ module _ {s output₀ output : List ℕ} {frames place : ℕ} (far : Far s outpu
       rw end (drop-sets output (512 * frames) bytes (omega arith)) in
       record {
         so-far =
-            on (frame bytes) 512 (soFar (sets output (512 * frames) bytes) (frames + 1) (place + 512)) (reading-good (drop place s) (here ∙ good-here))
+            on (frame bytes) 512 (soFar (sets output (512 * frames) bytes) (frames + 1) (place + 512)) (reading-good (drop place s) (good-here s place ∙ begins))
             (rw (next, handed, none));
         in-list = omega arith;
         whole = omega (arith, far .whole);

@@ -4,13 +4,12 @@ use mathlib.Core.Logic.{_⊎_, inl, inr, ⊎-elim}
 use mathlib.Core.Bool.{true, false}
 use mathlib.Core.List.{List, _++_}
 use Prim.Native.Nat.{ℕ, zero, suc, _+_, _*_, _<_, _≤_}
-use native.Mathlib.Nat.{add-zero}
 use native.Mathlib.Omega.{arith}
 use lib.ListN.{length, take, drop, length-take, length-drop, take-append-drop}
 use lib.Seq.{length-take-le, take-take, drop-drop, drop-append-le}
 use Rattle.wire.proofs.Cases.{by-test, by-order}
 use Rattle.reading.proofs.Append.{reading-append}
-use Rattle.reading.proofs.Readings.{good-append, good-drop, reading-few, reading-good, reading-none, counted, placeAfter, left-is}
+use Rattle.reading.proofs.Readings.{good-append, good-here, reading-few, reading-good, reading-none, counted, placeAfter, left-is}
 use Rattle.reading.specs.Reading.{good, Reading, leaving, frame, skip, _andThen_, reading}
 use Rattle.reading.specs.UpTo.{upTo, Comes, GoesPast}
 
@@ -44,8 +43,7 @@ goes-on s p k first comes enough size step =
 told : (s : List ℕ) (p n : ℕ) → p + 515 ≤ n → n ≤ length s → good (drop p (take n s)) 0 ≡ good s p
 told s p n inside enough =
     let long : length (take n s) ≡ n = length-take-le n s enough in
-    good-drop p (take n s) 0
-    ∙ ap (good (take n s)) (add-zero p)
+    good-here (take n s) p
     ∙ sym (good-append (take n s) (drop n s) p (omega arith))
     ∙ ap (λ l. good l p) (take-append-drop n s)
 
