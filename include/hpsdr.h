@@ -531,7 +531,7 @@ struct hpsdr_plain {
  *
  * The last frame of a recording is among the bytes left, unless sync follows it in the input or a false frame took its
  * beginning. This, what no reader can know from the bytes, and what is promised nevertheless are told above
- * `hpsdr_stream_feed`, and hold here too. */
+ * `hpsdr_stream_feed`, and hold here too, of an input that is accepted. */
 uint64_t hpsdr_plain_read(const uint8_t *input, size_t input_length, uint8_t *output, size_t output_length);
 
 static inline struct hpsdr_plain hpsdr_plain_of(uint64_t returned) {

@@ -34,11 +34,11 @@ const PIECE: usize = 512;
 /// doubt, though it may be a true one. Where just 512 bytes were lost, or a multiple, there is no sign at all: no frame
 /// carries a number.
 ///
-/// What is promised nevertheless, whatever the bytes are. A place begins a good frame if sync stands there and again 512
-/// bytes later. A good frame that is not handed out is overlapped by one that is, and that begins at one of the up to 511
-/// places before it. And if a place begins a good frame and none of the up to 511 places before it does, then that frame
-/// is handed out, and so is each good frame that follows directly, in their order and unaltered. That is proved of the
-/// library's calls. It does not say that a frame handed out is a true one.
+/// What is promised nevertheless, of all that has been fed, whatever its bytes are. A place begins a good frame if sync
+/// stands there and again 512 bytes later. A good frame that is not handed out is overlapped by one that is, and that
+/// begins at one of the up to 511 places before it. And if a place begins a good frame and none of the up to 511 places
+/// before it does, then that frame is handed out, and so is each good frame that follows directly, in their order and
+/// unaltered. That is proved of the library's calls. It does not say that a frame handed out is a true one.
 ///
 /// # Ends and errors
 ///

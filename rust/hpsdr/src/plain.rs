@@ -65,7 +65,7 @@ pub struct PlainReading {
 ///
 /// The last frame of a recording is among the bytes left, unless sync follows it in the input, or what was handed out as
 /// a frame before it took its beginning. How that can be, and what is promised nevertheless, is told of
-/// [`Frames`](crate::Frames), and holds here too.
+/// [`Frames`](crate::Frames), and holds here too, of an input that is accepted.
 pub fn read_at_once(input: &[u8], output: &mut [u8]) -> Result<PlainReading, Refusal> {
     // SAFETY: each pointer and number are those of one slice; the output is borrowed for writing, so it overlaps nothing.
     let returned = unsafe {
