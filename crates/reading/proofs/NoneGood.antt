@@ -15,7 +15,7 @@ pub record NoneGood (s : List ℕ) (start end : ℕ) : Type 0 where
   pub none : (k : ℕ) → start ≤ k → k < end → good s k ≡ false
 
 -- a byte that is not 7F stands in no sync: not as its first byte, its second or its third
-no-sync : (s : List ℕ) (p k : ℕ) → k ≤ p → p ≤ k + 2 → eqb (getD s p 0) 0x7f ≡ false → syncAt s k ≡ false
+pub no-sync : (s : List ℕ) (p k : ℕ) → k ≤ p → p ≤ k + 2 → eqb (getD s p 0) 0x7f ≡ false → syncAt s k ≡ false
 no-sync s p k low high other =
     let at : (q : ℕ) → p ≡ q → eqb (getD s q 0) 0x7f ≡ false = λ q is. sym (ap (λ n. eqb (getD s n 0) 0x7f) is) ∙ other in
     by-order k p

@@ -3,7 +3,7 @@ use mathlib.Core.Path.{_≡_, sym, ap, subst⁻¹, _∙_}
 use mathlib.Core.Bool.{Bool, false, not, _&&_, and-assoc, and-true, true≢false}
 use mathlib.Core.List.{List, [], _∷_, _++_}
 use Prim.Native.Nat.{ℕ, _+_, _-_, _<_, _≤_}
-use native.Mathlib.Nat.{zero-add}
+use native.Mathlib.Nat.{zero-add, add-zero}
 use native.Mathlib.Omega.{arith}
 use borrow.Author.Tests.{not-true}
 use lib.Dec.{eqb}
@@ -17,6 +17,7 @@ use Rattle.wire.specs.declared.Answer.{Answer}
 use Rattle.wire.proofs.Cases.{by-order}
 use Rattle.wire.proofs.First.{None, mentions, passing, stopping}
 use Rattle.wire.proofs.FirstWrong.{first-inside, wrong-there, right-before}
+use Rattle.wire.proofs.SyncCases.{sync-drop}
 
 -- of a part of a frame, which stands there from a place on
 module _ (due : ℕ) (frame part : List ℕ) (start : ℕ) (same : (i : ℕ) → i < length part → getD part i 0 ≡ getD frame (start + i) 0) where
@@ -49,13 +50,19 @@ module _ (frame : List ℕ) where
       let whole : start + length (drop start frame) ≡ length frame = rw (length-drop start frame) (omega (arith, inside)) in
       rw whole at (named-in due frame (drop start frame) start (λ i h. getD-drop start frame i 0) other)
 
-  -- and its first three bytes
+  -- and the three bytes of a sync
+  pub named-at : (p : ℕ) → p + 3 ≤ length frame → syncAt frame p ≡ false → FirstNot 0x7f frame p (p + 3) (p + firstOther 0x7f (take 3 (drop p frame)))
+  named-at p inside missing =
+      let rest = drop p frame in
+      let long : 3 ≤ length rest = rw (length-drop p frame) (omega arith) in
+      let three : length (take 3 rest) ≡ 3 = length-take-le 3 rest long in
+      let same : (i : ℕ) → i < length (take 3 rest) → getD (take 3 rest) i 0 ≡ getD frame (p + i) 0 =
+      λ i h. getD-take 3 rest i 0 (omega (arith, h, three)) ∙ getD-drop p frame i 0 in
+      let at-once : syncAt rest 0 ≡ syncAt frame p = sync-drop p frame 0 ∙ ap (syncAt frame) (add-zero p) in
+      rw three at (named-in 0x7f frame (take 3 rest) p same (sym (sync-every rest long) ∙ at-once ∙ missing))
+
   pub named-sync : 3 ≤ length frame → syncAt frame 0 ≡ false → FirstNot 0x7f frame 0 3 (placeOf (noSync frame))
-  named-sync long missing =
-      let three : length (take 3 frame) ≡ 3 = length-take-le 3 frame long in
-      let same : (i : ℕ) → i < length (take 3 frame) → getD (take 3 frame) i 0 ≡ getD frame (0 + i) 0 =
-      λ i h. getD-take 3 frame i 0 (omega (arith, h, three)) ∙ ap (λ k. getD frame k 0) (sym (zero-add i)) in
-      rw (zero-add (firstOther 0x7f (take 3 frame)), zero-add (length (take 3 frame)), three) at (named-in 0x7f frame (take 3 frame) 0 same (sym (sync-every frame long) ∙ missing))
+  named-sync long missing = rw (zero-add (firstOther 0x7f (take 3 frame))) at (named-at 0 long missing)
 
 -- among any tests, of which no other gives NO_SYNC, and those before it hold the frame to 512 bytes
 pub sync-told : (frame : List ℕ) (before after : List Test) → mentions 6 before ≡ false → mentions 6 after ≡ false → (None before → length frame ≡ 512) → numberOf (first (before ++ ((not (syncAt frame 0) gives noSync frame) ∷ after))) ≡ 6 → FirstNot 0x7f frame 0 3 (placeOf (first (before ++ ((not (syncAt frame 0) gives noSync frame) ∷ after))))
