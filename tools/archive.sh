@@ -12,7 +12,7 @@ set -eu
 home=$(cd "$(dirname "$0")/.." && pwd -P)
 name=${HPSDR_COMMAND:-tools/archive.sh}
 . "$home/tools/common.sh"
-crates='hpsdr hpsdr_transfer hpsdr_plain'
+crates='hpsdr hpsdr_transfer hpsdr_plain hpsdr_why'
 folder=$home/target/archive
 shipped=$home/target/x86_64
 machine=$(uname -m)
