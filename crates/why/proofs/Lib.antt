@@ -7,4 +7,7 @@ pub mod TrueReason
 pub mod OneReason
 pub mod AddUp
 pub mod InTheReading
+pub mod RunSteps
+pub mod TrueRun
+pub mod AllRuns
 pub mod Settled

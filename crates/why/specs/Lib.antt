@@ -1,3 +1,4 @@
 pub mod Reasons
 pub mod Why
 pub mod Sums
+pub mod Runs

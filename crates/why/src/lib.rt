@@ -1,13 +1,18 @@
 // Why a byte of an input was thrown out: the reason of a place, by the reading from place 0.
 //
 // Of each place of an input exactly one reason is true. `specs/Reasons.antt` says when each of them is.
+mod place;
+mod runs;
+
+use place::good_at;
+use place::skipped;
+pub use runs::Run;
+pub use runs::run_from;
 use wire::Answer;
-use wire::places::first_other;
-use wire::sync::sync_at;
 ghost use mathlib.Core.Path.{_≡_};
-ghost use Prim.Native.Nat.{_+_, _<_, _≤_};
+ghost use Prim.Native.Nat.{_<_, _≤_};
 ghost use lib.ListN.{length};
-ghost use Rattle.why.specs.Why.{whyOf, reasonOf, skippedFor, wrongByte, refused as refusedWith};
+ghost use Rattle.why.specs.Why.{whyOf, reasonOf, refused as refusedWith};
 
 // No input is longer.
 pub const MOST: usize = 65536;
@@ -57,7 +62,7 @@ pub(crate) fn followed(input: &[u8], asked: usize) -> Reason
     let length = input.len();
     let mut place = 0;
     while 515 <= length - place {
-        if sync_at(input, place) && sync_at(input, place + 512) {
+        if good_at(input, place) {
             if asked < place + 512 {
                 return Reason::Inside(place);
             }
@@ -70,25 +75,6 @@ pub(crate) fn followed(input: &[u8], asked: usize) -> Reason
         }
     }
     Reason::Held
-}
-
-// Which sync is wrong at a place that begins no good frame, and its first wrong byte.
-pub(crate) fn skipped(input: &[u8], place: usize) -> Reason
-    requires { ⌜ place + 515 ≤ length (now input) ⌝ }
-    ensures { λ r. ⌜ r ≡ skippedFor (now (input .entry)) place ⌝ }
-{
-    if sync_at(input, place) {
-        return Reason::Far(wrong_byte(input, place + 512));
-    }
-    Reason::Near(wrong_byte(input, place))
-}
-
-// The first of a sync's three bytes that is not 7F.
-pub(crate) fn wrong_byte(input: &[u8], place: usize) -> u8
-    requires { ⌜ place + 3 ≤ length (now input) ⌝ }
-    ensures { λ r. ⌜ r ≡ wrongByte (now (input .entry)) place ⌝ }
-{
-    first_other(&input[place..place + 3], 0x7f) as u8
 }
 
 pub(crate) fn refused(refusal: Answer) -> Why

@@ -9,8 +9,8 @@ use lib.ListN.{take, drop, length-take}
 use Rattle.wire.specs.Places.{firstOther}
 use Rattle.wire.proofs.FirstWrong.{first-within}
 use Rattle.why.specs.Why.{wrongByte}
-use Rattle.why.proofs.wrong_byte.Statement.{statement}
-use Rattle.why.proofs.wrong_byte.Tie as tie
+use Rattle.why.proofs.place.wrong_byte.Statement.{statement}
+use Rattle.why.proofs.place.wrong_byte.Tie as tie
 
 -- the part is the sync's three bytes
 found : (c : tie.After-first-other) → let given = c .before .before .before .args in c .first-other .result ≡ wrongByte (now (given .input)) (given .place)

@@ -2,8 +2,8 @@
 use mathlib.Core.Path.{_≡_, sym, ap, _∙_}
 use borrow.Author.Needs.{needs}
 use Rattle.why.specs.declared.Reason.the-variants.{Near, Far}
-use Rattle.why.proofs.skipped.Statement.{statement}
-use Rattle.why.proofs.skipped.Tie as tie
+use Rattle.why.proofs.place.skipped.Statement.{statement}
+use Rattle.why.proofs.place.skipped.Tie as tie
 
 returns : tie.Need-returns
 returns c =
