@@ -71,9 +71,16 @@ pub(crate) fn open(frame: &[u8; FRAME]) -> Result<(Control, &[u8]), Refusal> {
 
 #[cold]
 fn no_sync(frame: &[u8; FRAME]) -> Refusal {
-    let bytes = frame.iter().zip(SYNC);
-    let byte = bytes.take_while(|(&byte, sync)| byte == *sync).count();
+    let byte = sync_standing(frame);
     Refusal::NoSync { byte }
+}
+
+/// How many bytes of sync the slice begins with. Where it is not all three,
+/// this is the first that is wrong.
+#[inline]
+pub(crate) fn sync_standing(bytes: &[u8]) -> usize {
+    let bytes = bytes.iter().zip(SYNC);
+    bytes.take_while(|(&byte, sync)| byte == *sync).count()
 }
 
 /// Writes sync and C0 to C4; gives the payload still to be written.

@@ -1,7 +1,8 @@
 //! An independent implementation of the frames and the stream reader that
 //! document 01 (the scope) defines, with the requests T-01 (transfers), T-02
 //! (the place of a refusal), T-03 (I and Q toward the radio are swapped), T-07
-//! (host word 10), T-08 (levels are twelve bits) and T-10 (a plain reader).
+//! (host word 10), T-08 (levels are twelve bits), T-10 (a plain reader) and
+//! T-05 (why a byte was thrown out).
 //!
 //! Every refusal is `Err` of a [`Refusal`], which has the scope's number and,
 //! for 6, 7 and 8, says its place:
@@ -32,6 +33,7 @@ mod radio;
 mod refusal;
 mod stream;
 mod transfer;
+mod why;
 
 pub use frame::{row, Row};
 pub use host::{build, host_read, Builder, Host};
@@ -40,3 +42,4 @@ pub use radio::{radio_read, radio_write, Status};
 pub use refusal::{Cause, Refusal};
 pub use stream::{Stream, MOST};
 pub use transfer::{radio_read_transfer, Stopped};
+pub use why::{explain, Reason};

@@ -29,7 +29,7 @@ pub enum Refusal {
         /// The first such.
         cause: Cause,
     },
-    /// A value that does not fit.
+    /// A value that does not fit, or a place that is not below the input's length.
     Range,
 }
 

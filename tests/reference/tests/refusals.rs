@@ -447,3 +447,30 @@ fn plain_read_refuses_in_order() {
     ];
     check_every_set(&good, run_plain_read, &faults);
 }
+
+#[derive(Clone, Debug, PartialEq)]
+struct WhyCall {
+    input: Vec<u8>,
+    place: usize,
+}
+
+fn run_explain(call: &mut WhyCall) -> Option<Refusal> {
+    explain(&call.input, call.place).err()
+}
+
+#[test]
+fn explain_refuses_in_order() {
+    let good = WhyCall {
+        input: vec![0x7F; 515],
+        place: 514,
+    };
+    let faults: [Fault<WhyCall>; 6] = [
+        (Length, |c| c.input.resize(65_537, 0x7F)),
+        (Length, |c| c.input.resize(131_072, 0x7F)),
+        (Range, |c| c.place = c.input.len()),
+        (Range, |c| c.place = c.input.len() + 1),
+        (Range, |c| c.place |= 1 << 63),
+        (Range, |c| c.place = usize::MAX),
+    ];
+    check_every_set(&good, run_explain, &faults);
+}
