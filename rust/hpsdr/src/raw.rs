@@ -168,4 +168,8 @@ extern "C" {
         output: *mut u8,
         output_length: usize,
     ) -> u64;
+
+    /// Why the byte at a place of an input of at most 65,536 bytes was thrown out, or where it went; found is the reason's
+    /// number, 1 to 4. In bits 63 to 32 is what belongs to it: the frame's start, or the byte of sync.
+    pub fn hpsdr_why_byte(input: *const u8, input_length: usize, place: usize) -> u64;
 }

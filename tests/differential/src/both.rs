@@ -245,3 +245,10 @@ pub fn plain_read(input: &mut Lent<u8>, output: &mut Lent<u8>) -> Both {
     let reference = model::plain_read(input.reference(), output.reference());
     Both { library, reference }
 }
+
+pub fn why_byte(input: &mut Lent<u8>, place: usize) -> Both {
+    // SAFETY: the slice is whole.
+    let library = unsafe { raw::hpsdr_why_byte(input.pointer(), input.length(), place) };
+    let reference = model::why_byte(input.reference(), place);
+    Both { library, reference }
+}

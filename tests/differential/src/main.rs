@@ -19,6 +19,7 @@ mod text;
 mod transfer;
 mod twist;
 mod whole;
+mod why;
 
 use across::{Theme, FRAMES_CUT, SINGLE, SYNCS_CUT};
 use case::{made, Call, Case, Draw, Part};
@@ -113,6 +114,32 @@ fn whole(run: Run, stream: whole::Stream) -> Result<(), Differs> {
     Ok(())
 }
 
+fn count_told(tally: &mut Tally, told: &why::Told) {
+    let lines = lines(why::Ask::CALL, why::TOLD, |part| (part.holds)(told));
+    tally.count(&lines, told.returned);
+}
+
+/// One byte asked of, or now and then every byte of an input.
+fn why(run: Run) -> Result<(), Differs> {
+    let differs = |difference| (why::Ask::CALL.name, difference);
+    if run.number % why::WHOLE_EVERY != 0 {
+        let case = made::<why::Ask>(run.number, run.random);
+        let told = case.told(&run.guards).map_err(differs)?;
+        count_told(run.tally, &told);
+        return Ok(());
+    }
+    let mut draw = Draw {
+        random: run.random,
+        turn: run.number / why::WHOLE_EVERY,
+    };
+    let whole = why::every_byte(&mut draw, &run.guards).map_err(differs)?;
+    let lines = lines(plain::Read::CALL, why::WHOLE, |part| (part.holds)(&whole));
+    run.tally.count(&lines, whole.returned);
+    let told = whole.told.iter();
+    told.for_each(|told| count_told(run.tally, told));
+    Ok(())
+}
+
 struct Kind {
     run: fn(Run) -> Result<(), Differs>,
     lines: fn() -> Vec<Call>,
@@ -183,6 +210,15 @@ const KINDS: &[Kind] = &[
         run: |run| whole(run, whole::run_in_frames),
         theme: Some(&FRAMES_CUT),
         ..kind::<stream::Feed>(2)
+    },
+    // One in 256 is some thousand calls.
+    Kind {
+        run: why,
+        lines: || {
+            let of_whole = lines(plain::Read::CALL, why::WHOLE, |_| true);
+            [of_whole, lines(why::Ask::CALL, why::TOLD, |_| true)].concat()
+        },
+        ..kind::<why::Ask>(10)
     },
 ];
 

@@ -1,12 +1,12 @@
 //! Every call of the header, done by the reference: cells in, the reference's work, cells out.
 
 use crate::cells;
-use reference::{Builder, Cause, Host, Refusal, Status, Stopped, Stream};
+use reference::{Builder, Cause, Host, Reason, Refusal, Status, Stopped, Stream};
 
 /// What was found, or the refusal.
 pub type Answer = Result<u32, Refusal>;
 
-/// The parts of what the door returns.
+/// The parts of what the door returns. A byte's reason has its [detail](Parts::detail) where the plain reader has two counts.
 #[derive(Default)]
 pub struct Parts {
     /// Bits 7 to 0: the refusal's number, or 0.
@@ -33,10 +33,22 @@ impl Parts {
         }
     }
 
+    /// A reason, by its number, and what belongs to it.
+    pub fn of_reason(reason: u32, detail: u32) -> Parts {
+        Parts {
+            found: reason,
+            ..Parts::of(u64::from(detail) << 32)
+        }
+    }
+
+    /// Bits 63 to 32, of a byte's reason alone: the frame's start, or the byte of sync.
+    pub fn detail(&self) -> u32 {
+        self.left << 16 | self.skipped
+    }
+
     pub fn returned(self) -> u64 {
         let lower = self.place << 16 | self.found << 8 | self.answer;
-        let upper = self.left << 16 | self.skipped;
-        u64::from(upper) << 32 | u64::from(lower)
+        u64::from(self.detail()) << 32 | u64::from(lower)
     }
 }
 
@@ -192,4 +204,16 @@ pub fn plain_read(input: &[u8], output: &mut [u8]) -> u64 {
         .returned(),
         Err(refusal) => returned(Err(refusal)),
     }
+}
+
+/// As the door returns it: what belongs to the reason is told too.
+pub fn why_byte(input: &[u8], place: usize) -> u64 {
+    let (reason, detail) = match reference::explain(input, place) {
+        Ok(Reason::Inside { start }) => (1, start),
+        Ok(Reason::NearSync { byte }) => (2, byte),
+        Ok(Reason::FarSync { byte }) => (3, byte),
+        Ok(Reason::Held) => (4, 0),
+        Err(refusal) => return returned(Err(refusal)),
+    };
+    Parts::of_reason(reason, detail as u32).returned()
 }

@@ -1,13 +1,13 @@
 //! The options of the command line.
 
-const DEFAULT_CALLS: u64 = 1_930_000;
-const SHORT_CALLS: u64 = 32_000;
+const DEFAULT_CALLS: u64 = 2_180_000;
+const SHORT_CALLS: u64 = 37_000;
 const DEFAULT_SEED: u64 = 1;
 
 pub const USAGE: &str = "usage: differential [--calls N] [--seed S] [--short] [--case C]
-  --calls N  makes at least N calls (1,930,000)
+  --calls N  makes at least N calls (2,180,000)
   --seed S   draws the cases from S (1)
-  --short    makes 32,000 calls, every second case without guards, for a memory checker
+  --short    makes 37,000 calls, every second case without guards, for a memory checker
   --case C   makes only the case of number C";
 
 pub struct Options {

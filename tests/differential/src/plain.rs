@@ -8,18 +8,18 @@ use crate::model::Parts;
 use crate::text::{frames, laid, stretch, text};
 use crate::twist::{damage, resize, slice_length, FRAME, SYNC};
 
-const INPUT_MOST: usize = 65_536;
+pub const INPUT_MOST: usize = 65_536;
 /// The most frames that are handed out.
 const FRAMES_MOST: usize = 127;
 
-const INPUT_LENGTHS: [usize; 21] = [
+pub const INPUT_LENGTHS: [usize; 21] = [
     0, 1, 2, 3, 511, 512, 513, 514, 515, 516, 517, 1025, 1026, 1027, 1028, 4096, 65_026, 65_027,
     65_534, 65_535, 65_536,
 ];
-const OVER_LONG_INPUTS: [usize; 6] = [65_537, 65_538, 66_048, 66_051, 131_072, 131_073];
+pub const OVER_LONG_INPUTS: [usize; 6] = [65_537, 65_538, 66_048, 66_051, 131_072, 131_073];
 
 /// Frames from the first byte on, the last of them cut, or bytes of any kind.
-fn input_of(length: usize, draw: &mut Draw) -> Vec<u8> {
+pub fn input_of(length: usize, draw: &mut Draw) -> Vec<u8> {
     if draw.random.one_in(4) {
         let mut input = frames(length / FRAME + 1, draw);
         input.truncate(length);
