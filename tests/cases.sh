@@ -61,6 +61,12 @@ mistake_below() { # LINES NAME TEXT OTHER SAYS
     must_fail "$2" $((line - $1)) "$5"
 }
 
+# One byte that is claimed to have another reason, or another refusal, behind a text that ends before the answer.
+other_reason() { # LINES TEXT REASON OTHER
+    mistake_below "$1" why_byte.cases "$2answer $3" "$2answer $4" \
+        "expected answer $4; door answer $3; reference answer $3"
+}
+
 cargo build --offline --release -q -p cases
 "$program" "$data"/*.cases
 
@@ -302,6 +308,37 @@ mistake_below 1 plain_read.cases 'input lost511 length 1025 | answer 0 frames 1 
     'input lost511 length 1025 | answer 0 frames 0 skipped 511 left 514' \
     'expected answer 0 frames 0 skipped 511 left 514; door answer 0 frames 1 skipped 0 left 513; reference answer 0 frames 1'
 
+# Why a byte was thrown out (T-05). Claimed are the far sync where the near one is wrong too, the second of two wrong bytes of
+# either sync, and a byte of the near sync for one of the far one; a frame on the near sync alone; a byte skipped where 514
+# remain, one held where 515 do, and a frame where 514 remain; a frame's last byte that is skipped, the byte behind a frame
+# that is inside it, a start one too high, and one that is the place; a frame that a stray 7F hides, and one that is passed
+# by after a failed test; a good frame inside a false one, behind which it goes on, and one that is skipped in it; an input of
+# 65,536 that is refused and one of 65,537 that is read; RANGE before LENGTH; and a place that is the length, one that is cut
+# to 32 bits, and one of no byte.
+other_reason 0 'input at 2 = 7E at 512 = 7E        | ' '0 near 2' '0 far 0'
+other_reason 0 'input at 1 = 7E 7E                 | ' '0 near 1' '0 near 2'
+other_reason 0 'input at 513 = 7E 7E               | ' '0 far 1' '0 far 2'
+other_reason 0 'input at 514 = FF | ' '0 far 2' '0 near 2'
+other_reason 0 'row l, first byte    | input 515 of 00 sync 0     | place 0   | ' '0 far 0' '0 inside 0'
+other_reason 0 'input 514 of 11 | place 0   | ' '0 held' '0 near 0'
+other_reason 0 'input 515 of 11 | place 0   | ' '0 near 0' '0 held'
+other_reason 1 'input length 1026 | place 512 | ' '0 held' '0 inside 512'
+other_reason 0 'last of the second   | place 1023 | ' '0 inside 512' '0 near 0'
+other_reason 0 'behind both          | place 1024 | ' '0 held' '0 inside 512'
+other_reason 0 'frame 1  | place 5    | ' '0 inside 5' '0 inside 6'
+other_reason 0 'its last | place 516  | ' '0 inside 5' '0 inside 516'
+other_reason 0 '7F and a frame, at 1                      | place 1   | ' '0 inside 1' '0 near 2'
+other_reason 0 'input from510 | place 510 | ' '0 inside 510' '0 near 0'
+other_reason 0 'input tight | place 511  | ' '0 inside 0' '0 inside 511'
+other_reason 0 'input lost511 | place 512  | ' '0 far 2' '0 inside 511'
+other_reason 0 'input twice | place 300  | ' '0 inside 0' '0 near 0'
+other_reason 0 '65536 of 00, the last    | place 65535 | ' '0 held' '3'
+other_reason 0 'input length 65537 | place 0     | ' '3' '0 near 0'
+other_reason 0 'input length 65537 | place 65537 | ' '3' '9'
+other_reason 0 'place 515   | ' '9' '0 held'
+other_reason 0 'place 4294967296 | ' '9' '0 inside 0'
+other_reason 0 'input 0 of 00 | place 0   | ' '9' '0 held'
+
 # A cell that is claimed to be as it was: in a record, past what a call writes, in a lent frame; and one that
 # is claimed to have changed after a refusal, or to be as it was after one that comes behind frames that were read.
 mistake radio_read.cases '| answer 0 word 1 | status dot 1' '| answer 0 word 1' \
@@ -316,9 +353,11 @@ mistake radio_transfer.cases 'answer 6 frames 4 byte 1 | iq iq4 | mic mic4 | sta
     'answer 6 frames 4 byte 1 | iq iq4 | mic mic4' 'status dot: expected 1; door 0; reference 0'
 mistake host_build.cases 'turn 5 outputs 128 | answer 9' 'turn 5 outputs 128 | answer 9 | builder turn 6' \
     'builder turn: expected 6; door 5; reference 5'
+mistake why_byte.cases 'place 514   | answer 0 held' 'place 514   | answer 0 held | input at 514 = 00' \
+    'input[514]: expected 00; door 7F; reference 7F'
 
-# A word that is not known: a call, an argument, a cell, contents, a kind, what is found or counted, what its place is, a
-# cause.
+# A word that is not known: a call, an argument, a cell, contents, a kind, what is found or counted, a reason, one behind it,
+# what its place is, a cause.
 mistake layout.cases 'layout of 3 |' 'layuot of 3 |' "unknown word 'layuot'"
 mistake layout.cases 'receivers 4 |' 'recievers 4 |' "unknown word 'recievers'"
 mistake radio_read.cases 'answer 0 word 0 | status pll 1' 'answer 0 word 0 | status pl 1' "status: unknown word 'pl'"
@@ -341,8 +380,12 @@ mistake radio_read.cases 'control 10 0F FF 10 00 | answer 8 word 0 cause ain3' \
 
 mistake plain_read.cases 'input 3 of 7F    | answer 0 frames 0 skipped 0 left 3' \
     'input 3 of 7F    | answer 0 frames 0 skipped 0 held 3' "unknown word 'held'"
+mistake why_byte.cases 'input at 0 = 00   | answer 0 near 0' 'input at 0 = 00   | answer 0 nigh 0' "unknown word 'nigh'"
+mistake why_byte.cases 'input 1 of 00   | place 0   | answer 0 held' 'input 1 of 00   | place 0   | answer 0 held 0' \
+    "unknown word '0'"
 
-# A place beside an answer that says none: an accepted call, a refusal of another kind, and one of the whole transfer.
+# A place beside an answer that says none: an accepted call, a refusal of another kind, and one of the whole transfer. And a
+# reason beside a refusal.
 mistake radio_read.cases 'answer 0 word 31 | status dot 1 ptt 1' 'answer 0 word 31 byte 0 | status dot 1 ptt 1' \
     "unknown word 'byte'"
 mistake radio_read.cases 'frame length 513 | answer 3 word 0' 'frame length 513 | answer 3 word 0 byte 511' \
@@ -356,9 +399,11 @@ mistake radio_read.cases 'control 08 01 F4 04 56 | answer 0 word 1' 'control 08 
     "unknown word 'cause'"
 mistake radio_write.cases 'status ain3 4096 | word 2 | answer 9' 'status ain3 4096 | word 2 | answer 9 cause ain3' \
     "unknown word 'cause'"
+mistake why_byte.cases 'input 1 of 7F | place 1   | answer 9' 'input 1 of 7F | place 1   | answer 9 held' \
+    "unknown word 'held'"
 
-# What is missing: an answer, what is found or counted, a place, a cause, an argument, a field of a record, a title, a part
-# of a description.
+# What is missing: an answer, what is found or counted, a reason, what belongs to it, a place, a cause, an argument, a field
+# of a record, a title, a part of a description.
 mistake layout.cases '| answer 0 | row slot 8' '| row slot 8' 'the answer is missing'
 mistake layout.cases 'receivers 0 | answer 2' 'receivers 0 | answer' 'the answer is missing'
 mistake radio_read.cases 'receivers 9 | answer 2 word 0' 'receivers 9 | answer 2' 'word is missing'
@@ -377,6 +422,9 @@ mistake plain_read.cases 'input 2 of 7F    | answer 0 frames 0 skipped 0 left 2'
     'input 2 of 7F    | answer 0 frames 0' 'skipped is missing'
 mistake plain_read.cases 'an output of 0            | output length 0   | answer 4 frames 0 skipped 0 left 0' \
     'an output of 0            | output length 0   | answer 4 frames 0 skipped 0' 'left is missing'
+mistake why_byte.cases 'input at 1 = 00   | answer 0 near 1' 'input at 1 = 00   | answer 0' 'the reason is missing'
+mistake why_byte.cases 'input at 512 = 00 | answer 0 far 0' 'input at 512 = 00 | answer 0 far' 'far is missing'
+mistake why_byte.cases 'sync 0     | place 513 | answer 0 held' 'sync 0     | answer 0 held' 'place is missing'
 mistake_below -2 layout.cases 'usual layout | row 4 of 77' 'usual layout' 'row is missing'
 mistake fresh.cases '| builder marked turn 7 | answer 0' '| builder marked | answer 0' 'builder turn is missing'
 mistake layout.cases 'layout of 2 |' 'layout |' "the case's title is missing"
@@ -395,6 +443,10 @@ mistake plain_read.cases 'input length 65535 | answer 0 frames 0 skipped 65021 l
     "skipped: '65536' is not a number from 0 to 65535"
 mistake radio_read.cases 'frame at 2 = 7E | answer 6 word 0 byte 2' 'frame at 2 = 7E | answer 6 word 0 byte 3' \
     "byte: '3' is not a number from 0 to 2"
+mistake why_byte.cases 'input at 2 = 00   | answer 0 near 2' 'input at 2 = 00   | answer 0 near 3' \
+    "near: '3' is not a number from 0 to 2"
+mistake why_byte.cases 'place 65532 | answer 0 inside 65021' 'place 65532 | answer 0 inside 65022' \
+    "inside: '65022' is not a number from 0 to 65021"
 mistake radio_read.cases 'frame at 488 x 24 = 01 | answer 7 word 0 byte 488' \
     'frame at 488 x 24 = 01 | answer 7 word 0 byte 512' \
     "byte: '512' is not a number from 0 to 511"
@@ -416,12 +468,14 @@ must_fail host_build.cases "$(line_of host_build.cases '^host_read the numbers b
 
 # A false frame that is none, in a file of parts: byte 3 of the frame that it loses is 0, and sync does not stand 512 bytes
 # after its own. As many frames are handed out and bytes skipped, but the first frame is another.
-cp "$data"/stream.cases "$data"/plain_read.cases "$room"
+cp "$data"/stream.cases "$data"/plain_read.cases "$data"/why_byte.cases "$room"
 awk '{ sub(/at 514 = 7F put frame3/, "put frame3") } { print }' "$data/stream.parts" >"$room/stream.parts"
 must_fail stream.cases "$(line_of stream.cases '^stream_pieces a false frame 511 before frames, whole')" \
     'handed[3]: expected 01; door 00; reference 00'
 must_fail plain_read.cases "$(line_of plain_read.cases '^plain_read a false frame 511 before frames$')" \
     'output[3]: expected 01; door 00; reference 00'
+must_fail why_byte.cases "$(line_of why_byte.cases '^why_byte a false frame 511 before frames, at 511 ')" \
+    'expected answer 0 inside 0; door answer 0 inside 511; reference answer 0 inside 511'
 
 # A level of 4096 in the record that is written.
 cp "$data"/radio_write.cases "$room"

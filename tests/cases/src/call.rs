@@ -14,11 +14,18 @@ pub const fn argument(name: &'static str, kind: &'static Kind) -> Argument {
     Argument { name, kind }
 }
 
+/// What a call finds, as its answers say it.
+pub enum Found {
+    /// Numbers by their names: what it finds and, after it, what the plain reader counts.
+    Counts(&'static [&'static str]),
+    /// The reason of a byte, by its name, with what belongs to it.
+    Reason,
+}
+
 pub struct Call {
     pub name: &'static str,
     pub arguments: &'static [Argument],
-    /// What the call finds and, after it, what the plain reader counts.
-    pub found: &'static [&'static str],
+    pub found: Found,
     /// Makes the call on both sides; an error says why the case is none.
     pub run: fn(&Given) -> Result<Ran, String>,
 }

@@ -70,7 +70,7 @@ fn cells(argument: &Argument, after: &[i128], left: &After) -> Vec<String> {
 #[cfg(test)]
 mod tests {
     use super::*;
-    use crate::call::{argument, Call, Ran};
+    use crate::call::{argument, Call, Found, Ran};
     use crate::kind;
     use differential::both::Both;
 
@@ -81,7 +81,7 @@ mod tests {
         let call = Box::leak(Box::new(Call {
             name: "made_up",
             arguments: &ARGUMENTS,
-            found: &["word"],
+            found: Found::Counts(&["word"]),
             run,
         }));
         check(&Case {

@@ -1,6 +1,6 @@
 //! The calls that make a record fresh.
 
-use crate::call::{argument, Call, Given, Ran};
+use crate::call::{argument, Call, Found, Given, Ran};
 use crate::kind;
 use differential::both::{self, Both};
 use differential::lent::Lent;
@@ -8,21 +8,21 @@ use differential::lent::Lent;
 pub static STATUS: Call = Call {
     name: "status_fresh",
     arguments: &[argument("status", &kind::STATUS)],
-    found: &[],
+    found: Found::Counts(&[]),
     run: |given| record(given, "status", both::status_fresh),
 };
 
 pub static HOST: Call = Call {
     name: "host_fresh",
     arguments: &[argument("host", &kind::HOST)],
-    found: &[],
+    found: Found::Counts(&[]),
     run: |given| record(given, "host", both::host_fresh),
 };
 
 pub static BUILDER: Call = Call {
     name: "builder_fresh",
     arguments: &[argument("builder", &kind::BUILDER)],
-    found: &[],
+    found: Found::Counts(&[]),
     run: |given| record(given, "builder", both::builder_fresh),
 };
 
@@ -32,7 +32,7 @@ pub static STREAM: Call = Call {
         argument("counts", &kind::COUNTS),
         argument("held", &kind::BYTES),
     ],
-    found: &[],
+    found: Found::Counts(&[]),
     run: stream,
 };
 

@@ -1,6 +1,6 @@
 //! Frames from the host, read and built.
 
-use crate::call::{argument, Call, Given, Ran};
+use crate::call::{argument, Call, Found, Given, Ran};
 use crate::kind;
 use differential::both;
 
@@ -11,7 +11,7 @@ pub static READ: Call = Call {
         argument("audio", &kind::I16),
         argument("host", &kind::HOST),
     ],
-    found: &["address"],
+    found: Found::Counts(&["address"]),
     run: read,
 };
 
@@ -30,7 +30,7 @@ pub static BUILD: Call = Call {
         argument("audio", &kind::I16),
         argument("frame", &kind::BYTES),
     ],
-    found: &[],
+    found: Found::Counts(&[]),
     run: build,
 };
 

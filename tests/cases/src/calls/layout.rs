@@ -1,6 +1,6 @@
 //! The row of a number of receivers.
 
-use crate::call::{argument, Call, Given, Ran};
+use crate::call::{argument, Call, Found, Given, Ran};
 use crate::kind;
 use differential::both;
 
@@ -10,7 +10,7 @@ pub static LAYOUT: Call = Call {
         argument("receivers", &kind::NUMBER),
         argument("row", &kind::ROW),
     ],
-    found: &[],
+    found: Found::Counts(&[]),
     run: layout,
 };
 

@@ -6,10 +6,11 @@ mod layout;
 mod plain;
 mod radio;
 mod stream;
+mod why;
 
 use crate::call::Call;
 
-static CALLS: [&Call; 14] = [
+static CALLS: [&Call; 15] = [
     &layout::LAYOUT,
     &fresh::STATUS,
     &fresh::HOST,
@@ -24,6 +25,7 @@ static CALLS: [&Call; 14] = [
     &stream::FEED,
     &stream::PIECES,
     &plain::READ,
+    &why::BYTE,
 ];
 
 pub fn find(name: &str) -> Option<&'static Call> {

@@ -1,6 +1,6 @@
 //! The plain reader.
 
-use crate::call::{argument, Call, Given, Ran};
+use crate::call::{argument, Call, Found, Given, Ran};
 use crate::kind;
 use differential::both;
 
@@ -10,7 +10,7 @@ pub static READ: Call = Call {
         argument("input", &kind::BYTES),
         argument("output", &kind::BYTES),
     ],
-    found: &["frames", "skipped", "left"],
+    found: Found::Counts(&["frames", "skipped", "left"]),
     run: read,
 };
 

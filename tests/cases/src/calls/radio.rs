@@ -1,6 +1,6 @@
 //! Frames from the radio, read and written.
 
-use crate::call::{argument, Call, Given, Ran};
+use crate::call::{argument, Call, Found, Given, Ran};
 use crate::kind;
 use differential::both::{self, Both};
 use differential::lent::Lent;
@@ -14,7 +14,7 @@ pub static READ: Call = Call {
         argument("mic", &kind::I16),
         argument("status", &kind::STATUS),
     ],
-    found: &["word"],
+    found: Found::Counts(&["word"]),
     run: |given| read(given, "frame", both::radio_read),
 };
 
@@ -27,7 +27,7 @@ pub static READ_TRANSFER: Call = Call {
         argument("mic", &kind::I16),
         argument("status", &kind::STATUS),
     ],
-    found: &["frames"],
+    found: Found::Counts(&["frames"]),
     run: |given| read(given, "input", both::radio_read_transfer),
 };
 
@@ -53,7 +53,7 @@ pub static WRITE: Call = Call {
         argument("mic", &kind::I16),
         argument("frame", &kind::BYTES),
     ],
-    found: &[],
+    found: Found::Counts(&[]),
     run: write,
 };
 

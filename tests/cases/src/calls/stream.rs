@@ -1,6 +1,6 @@
 //! The stream reader: whether a record is sound, one feeding, and a whole input in pieces.
 
-use crate::call::{argument, After, Call, Given, Ran};
+use crate::call::{argument, After, Call, Found, Given, Ran};
 use crate::kind;
 use differential::both::{self, Both};
 use differential::lent::Lent;
@@ -12,7 +12,7 @@ pub static SOUND: Call = Call {
         argument("counts", &kind::COUNTS),
         argument("held", &kind::BYTES),
     ],
-    found: &[],
+    found: Found::Counts(&[]),
     run: sound,
 };
 
@@ -31,7 +31,7 @@ pub static FEED: Call = Call {
         argument("piece", &kind::BYTES),
         argument("output", &kind::BYTES),
     ],
-    found: &["frames"],
+    found: Found::Counts(&["frames"]),
     run: feed,
 };
 
@@ -54,7 +54,7 @@ pub static PIECES: Call = Call {
         argument("pieces", &kind::LENGTHS),
         argument("handed", &kind::BYTES),
     ],
-    found: &["frames"],
+    found: Found::Counts(&["frames"]),
     run: pieces,
 };
 
