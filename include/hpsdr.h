@@ -1,6 +1,6 @@
 /* Frames of the HPSDR USB Data Protocol 1.58, read and written: those that a radio sends for one to eight
  * receivers, those that a host sends to it, and two readers that find radio frames among bytes: one takes a stream
- * piece by piece, the other an input at once.
+ * piece by piece, the other an input at once. Of such an input one more call tells why a byte of it was thrown out.
  *
  * Every call takes what it is given, checks for itself, and works or gives one of nine refusals, the first
  * that holds in the order of their numbers. After a refusal every buffer and record that was lent holds
@@ -9,13 +9,13 @@
  * own.
  *
  * Each call has a full form and below it a short one. Begin with the short forms: `hpsdr_read`, `hpsdr_read_transfer`,
- * `hpsdr_write`, `hpsdr_hear`, `hpsdr_build_next`, `hpsdr_feed`, `hpsdr_read_at_once`, and the `_init` ones for their
- * records. They take a record by its pointer, and arrays that are whole: a frame of HPSDR_FRAME bytes, audio of
- * HPSDR_AUDIO numbers, an output of HPSDR_OUTPUT_LEAST bytes, or of as many as the input of `hpsdr_read_at_once` has.
- * They trust the caller for these sizes only, so they never answer SHORT_BUFFER, and LENGTH only for the length of a
- * piece, of a transfer or of an input, which they are given; all else they check as the full forms do. The full forms
- * take a length after each pointer and check it too: they are for lengths that come from elsewhere. `examples/peaks.c`
- * is a whole program.
+ * `hpsdr_write`, `hpsdr_hear`, `hpsdr_build_next`, `hpsdr_feed`, `hpsdr_read_at_once`, `hpsdr_explain`, and the `_init`
+ * ones for their records. They take a record by its pointer, and arrays that are whole: a frame of HPSDR_FRAME bytes,
+ * audio of HPSDR_AUDIO numbers, an output of HPSDR_OUTPUT_LEAST bytes, or of as many as the input of
+ * `hpsdr_read_at_once` has. They trust the caller for these sizes only, so they never answer SHORT_BUFFER, and LENGTH
+ * only for the length of a piece, of a transfer or of an input, which they are given; all else they check as the full
+ * forms do. The full forms take a length after each pointer and check it too: they are for lengths that come from
+ * elsewhere. `examples/peaks.c` is a whole program.
  *
  * In both forms a pointer is not null and is aligned for its type, even where the length after it is 0; what it
  * points at is the caller's for the time of the call, as many elements as the form says or as are given, and what a
@@ -35,8 +35,8 @@
  * are the place, beside the three refusals that have one: NO_SYNC and PADDING name a byte of the frame, counted from 0,
  * and RESERVED an `enum hpsdr_cause`, which is a code or bit of a host frame or a level of a radio frame; beside every
  * other answer they are 0. So an accepted call that found something does not return 0, and a refusal is not always its
- * number alone: ask `hpsdr_answer_of`. One call, `hpsdr_plain_read`, returns two counts above these 32 bits:
- * `hpsdr_plain_of` takes them apart.
+ * number alone: ask `hpsdr_answer_of`. Two calls return more above these 32 bits, `hpsdr_plain_read` two counts and
+ * `hpsdr_why_byte` a detail: `hpsdr_plain_of` and `hpsdr_why_of` take them apart.
  */
 #ifndef HPSDR_H
 #define HPSDR_H
@@ -101,7 +101,7 @@ static inline const char *hpsdr_answer_sentence(uint32_t answer) {
     case HPSDR_NO_SYNC: return "the frame's first three bytes are not 7F 7F 7F";
     case HPSDR_PADDING: return "a padding byte is not 0";
     case HPSDR_RESERVED: return "an unassigned host code or bit is set, or a level of a radio frame is above 4,095";
-    case HPSDR_RANGE: return "a value to be written does not fit";
+    case HPSDR_RANGE: return "a value to be written does not fit, or the place is not below the input's length";
     default: return "this number is no answer";
     }
 }
@@ -140,12 +140,12 @@ static inline const char *hpsdr_cause_sentence(uint32_t cause) {
     }
 }
 
-#define HPSDR_TEXT 128 /* bytes that have room for every text of the next two */
+#define HPSDR_TEXT 128 /* bytes that have room for every text of the next two, and of `hpsdr_why_text` */
 
 /* What an answer says with its place, for people to read: of `got` itself, as any call but a transfer returned it, or
- * `struct hpsdr_plain` has it. It is written to `text`, which is given back. NO_SYNC is "sync byte 1 is not 7F",
- * PADDING is "padding byte 509 is not zero", RESERVED is its cause's sentence, and every other answer is its
- * `hpsdr_answer_sentence`. */
+ * `struct hpsdr_plain` or `struct hpsdr_why` has it. It is written to `text`, which is given back. NO_SYNC is "sync byte
+ * 1 is not 7F", PADDING is "padding byte 509 is not zero", RESERVED is its cause's sentence, and every other answer is
+ * its `hpsdr_answer_sentence`. */
 static inline const char *hpsdr_refusal_text(uint32_t got, char text[HPSDR_TEXT]) {
     const unsigned place = (unsigned)hpsdr_place_in(got);
     switch (hpsdr_answer_of(got)) {
@@ -186,7 +186,7 @@ static inline const char *hpsdr_transfer_text(uint32_t got, char text[HPSDR_TEXT
 #define HPSDR_PIECE_MOST 4096   /* bytes of the longest piece that a stream is fed */
 #define HPSDR_OUTPUT_LEAST 4096 /* bytes of the shortest output that a stream is lent: eight frames */
 #define HPSDR_HELD 514          /* bytes that a stream may hold */
-#define HPSDR_INPUT_MOST 65536  /* bytes of the longest input that the plain reader takes */
+#define HPSDR_INPUT_MOST 65536  /* bytes of the longest input that the plain reader takes, and `hpsdr_why_byte` */
 
 /* ---- how the samples of 1 to 8 receivers fill a radio frame ---- */
 
@@ -546,6 +546,88 @@ static inline struct hpsdr_plain hpsdr_plain_of(uint64_t returned) {
 /* The output has as many bytes as the input. */
 static inline struct hpsdr_plain hpsdr_read_at_once(const uint8_t *input, size_t length, uint8_t *output) {
     return hpsdr_plain_of(hpsdr_plain_read(input, length, output, length));
+}
+
+/* ---- why a byte was thrown out ---- */
+
+/* What the reading of an input made of the byte at a place. What each says stands in `hpsdr_why_text`. */
+enum hpsdr_reason {
+    HPSDR_NOT_GIVEN = 0, /* beside a refusal, and only there */
+    HPSDR_INSIDE = 1,    /* in a frame handed out */
+    HPSDR_NEAR_SYNC = 2, /* skipped: sync does not stand at the place */
+    HPSDR_FAR_SYNC = 3,  /* skipped: sync stands there, but not 512 bytes later */
+    HPSDR_STILL_HELD = 4 /* among the bytes that a stream holds at the end, and the plain reader leaves */
+};
+
+/* What `hpsdr_why_byte` returned, taken apart. */
+struct hpsdr_why {
+    uint32_t got;    /* as any other call returns it: the answer, and found, which is `reason` again */
+    uint32_t reason; /* enum hpsdr_reason */
+    uint32_t start;  /* for INSIDE the place at which the frame begins, otherwise 0 */
+    uint32_t byte;   /* for NEAR_SYNC and FAR_SYNC the first byte of that sync, 0 to 2, that is not 7F, otherwise 0 */
+};
+
+/* Tells what became of the byte at a place, counted from 0, of an input of at most 65,536 bytes, where the reading
+ * begins at place 0 and goes by the rule of `hpsdr_stream_feed`. Found: an `enum hpsdr_reason`, 1 to 4. Refusals:
+ * LENGTH (an input above 65,536 bytes), RANGE (a place that is not below the input's length: of an empty input, every
+ * place).
+ *
+ * Of each place of an accepted input exactly one reason is true, and that one is found:
+ *   INSIDE      a frame handed out begins at `start`, and start <= place < start + 512;
+ *   NEAR_SYNC   the reading comes to the place, at least 515 bytes remain from it on, and of the three bytes there the
+ *               first that is not 7F is input[place + byte];
+ *   FAR_SYNC    the same, but the three bytes there are 7F, and of the three that stand 512 bytes later the first that
+ *               is not 7F is input[place + 512 + byte];
+ *   STILL_HELD  the reading ends at the place or before it, where fewer than 515 bytes remain.
+ * And over all places of an accepted input the reasons add up to what the reading gives: INSIDE is told 512 times for
+ * each frame handed out, NEAR_SYNC and FAR_SYNC together as often as bytes are skipped, STILL_HELD as often as bytes are
+ * left. All this is proved.
+ *
+ * What is returned. Bits 31 to 0 are as every other call's. Bits 63 to 32 are the detail: `start` for INSIDE, `byte`
+ * for NEAR_SYNC and FAR_SYNC, and 0 for STILL_HELD. A refusal is its number alone.
+ *
+ * What it is for. Where bytes are skipped one after another, ask for the first of them, which stands directly behind a
+ * frame handed out or at the input's beginning: its reason says what was wrong where the next frame was looked for
+ * first. `examples/why.c` asks of a recording.
+ *
+ * What it does not say. It does not say that a frame handed out is a true one: see above `hpsdr_stream_feed`. And it
+ * knows the input alone. Where that is a part of a longer recording, the reading of the whole may come to other places,
+ * and what is held here is held only because the input ends. */
+uint64_t hpsdr_why_byte(const uint8_t *input, size_t input_length, size_t place);
+
+static inline struct hpsdr_why hpsdr_why_of(uint64_t returned) {
+    const uint32_t detail = (uint32_t)(returned >> 32);
+    struct hpsdr_why why;
+    why.got = (uint32_t)(returned & 0xffffffff);
+    why.reason = hpsdr_found_in(why.got);
+    why.start = why.reason == HPSDR_INSIDE ? detail : 0;
+    why.byte = why.reason == HPSDR_NEAR_SYNC || why.reason == HPSDR_FAR_SYNC ? detail : 0;
+    return why;
+}
+
+static inline struct hpsdr_why hpsdr_explain(const uint8_t *input, size_t length, size_t place) {
+    return hpsdr_why_of(hpsdr_why_byte(input, length, place));
+}
+
+/* The reason, for people to read: "inside the frame handed out that begins at byte 1024", "skipped: byte 2 of the sync
+ * at this place is not 7F", "skipped: byte 2 of the sync 512 bytes later is not 7F", "still held", or of a refusal what
+ * `hpsdr_refusal_text` says. It is written to `text`, which is given back. */
+static inline const char *hpsdr_why_text(struct hpsdr_why why, char text[HPSDR_TEXT]) {
+    const unsigned start = (unsigned)why.start, byte = (unsigned)why.byte;
+    if (hpsdr_answer_of(why.got) != HPSDR_ACCEPTED)
+        return hpsdr_refusal_text(why.got, text);
+    switch (why.reason) {
+    case HPSDR_INSIDE: snprintf(text, HPSDR_TEXT, "inside the frame handed out that begins at byte %u", start); break;
+    case HPSDR_NEAR_SYNC:
+        snprintf(text, HPSDR_TEXT, "skipped: byte %u of the sync at this place is not 7F", byte);
+        break;
+    case HPSDR_FAR_SYNC:
+        snprintf(text, HPSDR_TEXT, "skipped: byte %u of the sync 512 bytes later is not 7F", byte);
+        break;
+    case HPSDR_STILL_HELD: snprintf(text, HPSDR_TEXT, "still held"); break;
+    default: snprintf(text, HPSDR_TEXT, "this number is no reason");
+    }
+    return text;
 }
 
 #ifdef __cplusplus

@@ -1,5 +1,5 @@
 #!/bin/sh
-# Builds the tests of the library from C and the examples against the archive, and runs the tests, peaks and compare,
+# Builds the tests of the library from C and the examples against the archive, and runs the tests, peaks, compare and why,
 # alone and under valgrind; the tests of the header's short forms as C++ too. Says how much stack a feeding needs, and
 # nothing else unless something fails.
 set -eu
@@ -150,6 +150,11 @@ bytes left: $3 at once, $3 in pieces, the same
 END
 }
 
+# What why prints of a byte.
+expected_of_reason() { # TEXT
+    printf '%s\n' "$1"
+}
+
 # A program, the exit status that is due, and its arguments. Its output is left in $work/got.
 exits() {
     program=$1
@@ -166,6 +171,19 @@ peaks() {
 
 compare() {
     exits compare "$@"
+}
+
+# The place, what is due of it, and the recording.
+why() {
+    exits why 0 "$1" < "$3"
+    check_output reason "$2"
+}
+
+# The place, what the complaint goes on with, and the recording.
+why_refused() {
+    exits why 1 "$1" < "$3"
+    check_silence "for place $1"
+    check_complaint "why: refused: $2\$"
 }
 
 # The name of what is expected, and the numbers that it takes.
@@ -215,6 +233,7 @@ build_as_cpp tests/forms.c "$work/forms.cpp"
 build_as_cpp tests/recordings.c "$work/recordings.cpp"
 build examples/peaks.c "$work/peaks"
 build examples/compare.c "$work/compare"
+build examples/why.c "$work/why"
 # What these print stands in the README, and tests/readme.sh compares it.
 build examples/program.c "$work/program"
 build examples/send.c "$work/send"
@@ -293,3 +312,36 @@ compare_wrong 'output[10 * 512 - 1] ^= 1' 'not the same' 'the same' 'the same'
 compare_wrong 'plain.frames--' 'not the same' 'the same' 'the same'
 compare_wrong 'plain.skipped++' 'the same' 'not the same' 'the same'
 compare_wrong 'plain.left--' 'the same' 'the same' 'not the same'
+
+# The fifth frame's 506 bytes begin at 2,048 with its sync, before which the fourth's end. 512 bytes later stand C3, C4 and
+# a sample byte of the sixth, which begins at 2,554. The eleventh begins at 5,114, and the twelfth, at 5,626, is held.
+why 0 'inside the frame handed out that begins at byte 0' "$recording"
+why 2047 'inside the frame handed out that begins at byte 1536' "$recording"
+why 2048 'skipped: byte 0 of the sync 512 bytes later is not 7F' "$recording"
+why 2049 'skipped: byte 2 of the sync at this place is not 7F' "$recording"
+why 2050 'skipped: byte 1 of the sync at this place is not 7F' "$recording"
+why 2553 'skipped: byte 0 of the sync at this place is not 7F' "$recording"
+why 2554 'inside the frame handed out that begins at byte 2554' "$recording"
+why 5625 'inside the frame handed out that begins at byte 5114' "$recording"
+why 5626 'still held' "$recording"
+why 6137 'still held' "$recording"
+why 5626 'inside the frame handed out that begins at byte 5626' "$work/with_sync"
+why 65021 'skipped: byte 0 of the sync at this place is not 7F' "$work/longest"
+why 65022 'still held' "$work/longest"
+beyond="a value to be written does not fit, or the place is not below the input's length"
+why_refused 6138 "$beyond" "$recording"
+why_refused 99999999999999999999 "$beyond" "$recording"
+why_refused 0 "$beyond" /dev/null
+too_long='the frame is not 512 bytes, the transfer is not 1 to 8 times 512, the piece is above 4,096, or the input is above 65,536'
+why_refused 0 "$too_long" "$work/longer"
+why_refused 65537 "$too_long" "$work/longer"
+for argument in '' 1x -1 +1 ' 1'; do
+    exits why 2 "$argument" < "$recording"
+    check_silence "for the argument '$argument'"
+done
+exits why 2 < "$recording"
+exits why 2 1 1 < "$recording"
+exits why 1 1 < "$work"
+check_complaint 'why: standard input: '
+run_watched why 2048 < "$recording" > "$work/got"
+check_output reason 'skipped: byte 0 of the sync 512 bytes later is not 7F'

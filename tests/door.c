@@ -1297,7 +1297,7 @@ static void test_eight_frames(void) {
     run("stream feed of eight frames", stream_feed, HPSDR_ACCEPTED, 8);
 }
 
-/* ---- the plain reader, on a desk of its own: every other call would compare its 65,536 bytes too ---- */
+/* ---- the plain reader and the reasons, on a desk of their own: every other call would compare its bytes too ---- */
 
 struct plain_desk {
     uint8_t input[3][HPSDR_INPUT_MOST + 1];
@@ -1347,49 +1347,84 @@ static void refuse_plain(const char *what, size_t length, size_t output, enum hp
     run_plain(what, length, output, &due);
 }
 
-/* What document 01's rule makes of inputs with sync at some places. */
+/* A place that is asked about, and the reason due with its detail. */
+struct asked {
+    size_t place;
+    enum hpsdr_reason reason;
+    uint64_t detail;
+};
+
+static const size_t at_0[] = {0}, at_1[] = {1}, at_0_and_549[] = {0, 549}, at_last[] = {65021};
+
+/* What document 01's rule makes of inputs with sync at some places, and of some of their bytes. */
+static const struct input {
+    const char *what;
+    size_t length, count, syncs[4];
+    struct plain_due due;
+    struct asked asked[12];
+} inputs[] = {
+    {"nothing", 0, 0, {0}, {.left = 0}, {{0}}},
+    {"one byte", 1, 0, {0}, {.left = 1}, {{0, HPSDR_STILL_HELD, 0}}},
+    {"row j, 514 with sync at 0", 514, 1, {0}, {.left = 514}, {{0, HPSDR_STILL_HELD, 0}, {513, HPSDR_STILL_HELD, 0}}},
+    {"row k, 515 with sync at 0 and 512", 515, 2, {0, 512}, {.frames = 1, .left = 3, .starts = at_0},
+     {{0, HPSDR_INSIDE, 0}, {511, HPSDR_INSIDE, 0}, {512, HPSDR_STILL_HELD, 0}, {514, HPSDR_STILL_HELD, 0}}},
+    {"row l, 515 with sync at 0 only", 515, 1, {0}, {.skipped = 1, .left = 514},
+     {{0, HPSDR_FAR_SYNC, 0}, {1, HPSDR_STILL_HELD, 0}, {514, HPSDR_STILL_HELD, 0}}},
+    {"515 with sync at 512 only", 515, 1, {512}, {.skipped = 1, .left = 514},
+     {{0, HPSDR_NEAR_SYNC, 0}, {1, HPSDR_STILL_HELD, 0}, {512, HPSDR_STILL_HELD, 0}}},
+    /* Place 100 is never come to, and at 512 fewer than 515 bytes remain. */
+    {"sync inside a frame", 615, 4, {0, 100, 512, 612}, {.frames = 1, .left = 103, .starts = at_0},
+     {{99, HPSDR_INSIDE, 0}, {100, HPSDR_INSIDE, 0}, {511, HPSDR_INSIDE, 0}, {512, HPSDR_STILL_HELD, 0},
+      {612, HPSDR_STILL_HELD, 0}, {614, HPSDR_STILL_HELD, 0}}},
+    /* At 512 there is sync, but none at 1,024: the 37 bytes up to 549 are skipped. Sync goes on to 514. */
+    {"stray bytes between frames", 1064, 4, {0, 512, 549, 1061},
+     {.frames = 2, .skipped = 37, .left = 3, .starts = at_0_and_549},
+     {{0, HPSDR_INSIDE, 0}, {511, HPSDR_INSIDE, 0}, {512, HPSDR_FAR_SYNC, 0}, {513, HPSDR_NEAR_SYNC, 2},
+      {514, HPSDR_NEAR_SYNC, 1}, {515, HPSDR_NEAR_SYNC, 0}, {548, HPSDR_NEAR_SYNC, 0}, {549, HPSDR_INSIDE, 549},
+      {1060, HPSDR_INSIDE, 549}, {1061, HPSDR_STILL_HELD, 0}, {1063, HPSDR_STILL_HELD, 0}}},
+    /* From 513 on there are 599 bytes. They have no second sync, and 85 of them are skipped, up to 597. */
+    {"stray bytes before and after a frame", 1112, 2, {1, 513},
+     {.frames = 1, .skipped = 1 + 85, .left = 514, .starts = at_1},
+     {{0, HPSDR_NEAR_SYNC, 0}, {1, HPSDR_INSIDE, 1}, {512, HPSDR_INSIDE, 1}, {513, HPSDR_FAR_SYNC, 0},
+      {514, HPSDR_NEAR_SYNC, 2}, {515, HPSDR_NEAR_SYNC, 1}, {516, HPSDR_NEAR_SYNC, 0}, {597, HPSDR_NEAR_SYNC, 0},
+      {598, HPSDR_STILL_HELD, 0}, {1111, HPSDR_STILL_HELD, 0}}},
+    {"no sync", 65536, 0, {0}, {.skipped = 65022, .left = 514},
+     {{0, HPSDR_NEAR_SYNC, 0}, {65021, HPSDR_NEAR_SYNC, 0}, {65022, HPSDR_STILL_HELD, 0},
+      {65535, HPSDR_STILL_HELD, 0}}},
+    {"a frame at the last place that is read", 65536, 2, {65021, 65533},
+     {.frames = 1, .skipped = 65021, .left = 3, .starts = at_last},
+     {{65020, HPSDR_NEAR_SYNC, 0}, {65021, HPSDR_INSIDE, 65021}, {65532, HPSDR_INSIDE, 65021},
+      {65533, HPSDR_STILL_HELD, 0}, {65535, HPSDR_STILL_HELD, 0}}},
+    {"a frame one place later", 65536, 2, {65022, 65534}, {.skipped = 65022, .left = 514},
+     {{65020, HPSDR_NEAR_SYNC, 0}, {65021, HPSDR_NEAR_SYNC, 0}, {65022, HPSDR_STILL_HELD, 0},
+      {65535, HPSDR_STILL_HELD, 0}}},
+};
+static const struct input *const inputs_end = inputs + sizeof inputs / sizeof *inputs;
+
+static void set_out_input(const struct input *input) {
+    set_out_plain();
+    for (size_t number = 0; number < input->count; number++)
+        put_sync(input->syncs[number]);
+}
+
 static void test_plain_by_hand(void) {
-    static const size_t at_0[] = {0}, at_1[] = {1}, at_0_and_549[] = {0, 549}, at_last[] = {65021};
-    static const struct {
-        const char *what;
-        size_t length, count, syncs[4];
-        struct plain_due due;
-    } cases[] = {
-        {"nothing", 0, 0, {0}, {.left = 0}},
-        {"one byte", 1, 0, {0}, {.left = 1}},
-        {"row j, 514 with sync at 0", 514, 1, {0}, {.left = 514}},
-        {"row k, 515 with sync at 0 and 512", 515, 2, {0, 512}, {.frames = 1, .left = 3, .starts = at_0}},
-        {"row l, 515 with sync at 0 only", 515, 1, {0}, {.skipped = 1, .left = 514}},
-        {"515 with sync at 512 only", 515, 1, {512}, {.skipped = 1, .left = 514}},
-        /* Place 100 is never come to, and at 512 fewer than 515 bytes remain. */
-        {"sync inside a frame", 615, 4, {0, 100, 512, 612}, {.frames = 1, .left = 103, .starts = at_0}},
-        /* At 512 there is sync, but none at 1,024: the 37 bytes up to 549 are skipped. */
-        {"stray bytes between frames", 1064, 4, {0, 512, 549, 1061},
-         {.frames = 2, .skipped = 37, .left = 3, .starts = at_0_and_549}},
-        /* From 513 on there are 599 bytes. They have no second sync, and 85 of them are skipped. */
-        {"stray bytes before and after a frame", 1112, 2, {1, 513},
-         {.frames = 1, .skipped = 1 + 85, .left = 514, .starts = at_1}},
-        {"no sync", 65536, 0, {0}, {.skipped = 65022, .left = 514}},
-        {"a frame at the last place that is read", 65536, 2, {65021, 65533},
-         {.frames = 1, .skipped = 65021, .left = 3, .starts = at_last}},
-        {"a frame one place later", 65536, 2, {65022, 65534}, {.skipped = 65022, .left = 514}},
-    };
-    for (size_t at = 0; at < sizeof cases / sizeof *cases; at++) {
-        set_out_plain();
-        for (size_t number = 0; number < cases[at].count; number++)
-            put_sync(cases[at].syncs[number]);
-        read_plain(cases[at].what, cases[at].length, cases[at].due);
+    for (const struct input *input = inputs; input < inputs_end; input++) {
+        set_out_input(input);
+        read_plain(input->what, input->length, input->due);
     }
 }
 
 /* A stray 7F and two bytes of sync are 7F 7F 7F. 512 bytes later stand the frame's last byte and two bytes of the next
  * sync, so a frame begins at 0 if that last byte is 7F, and at 1 if not. */
-static void test_plain_stray(void) {
-    static const size_t at_0[] = {0}, at_1[] = {1};
+static void set_out_stray(void) {
     set_out_plain();
     plain.input[1][0] = 0x7F;
     put_sync(1);
     put_sync(513);
+}
+
+static void test_plain_stray(void) {
+    set_out_stray();
     read_plain("a stray 7F before a frame", 516,
                (struct plain_due){.frames = 1, .skipped = 1, .left = 3, .starts = at_1});
     plain.input[1][512] = 0x7F;
@@ -1411,30 +1446,40 @@ static void test_plain_sync(void) {
 
 /* The longest input, with sync every 512 bytes from a place on, 128 times. A frame begins at each but the last: what
  * stands from there on is left, all 512 bytes of a frame if the first place is 0. */
+static void set_out_longest(size_t first, size_t starts[128]) {
+    set_out_plain();
+    for (size_t number = 0; number < 128; number++) {
+        starts[number] = first + HPSDR_FRAME * number;
+        put_sync(starts[number]);
+    }
+}
+
 static void test_plain_longest(void) {
     for (size_t first = 0; first < 3; first++) {
         size_t starts[128];
-        set_out_plain();
-        for (size_t number = 0; number < 128; number++) {
-            starts[number] = first + HPSDR_FRAME * number;
-            put_sync(starts[number]);
-        }
+        set_out_longest(first, starts);
         read_plain("frames in the longest input", HPSDR_INPUT_MOST,
                    (struct plain_due){.frames = 127, .skipped = first, .left = 512 - first, .starts = starts});
     }
 }
 
-/* Bytes of which most are 7F, so that sync stands at many places, held to the plain reading of this file. */
-static void test_plain_noise(void) {
-    enum { NOISE = 2600 };
+enum { NOISE = 2600 };
+
+/* Bytes of which so many in 256 are 7F. */
+static void set_out_noise(uint32_t syncs) {
     uint32_t state = 1;
-    struct hpsdr_counts counts;
-    size_t starts[NOISE / HPSDR_FRAME];
     set_out_plain();
     for (size_t place = 0; place < NOISE; place++) {
         state = state * 1664525 + 1013904223;
-        plain.input[1][place] = state >> 24 < 230 ? 0x7F : (uint8_t)(state >> 16);
+        plain.input[1][place] = state >> 24 < syncs ? 0x7F : (uint8_t)(state >> 16);
     }
+}
+
+/* Most are 7F, so that sync stands at many places. The noise is held to the plain reading of this file. */
+static void test_plain_noise(void) {
+    struct hpsdr_counts counts;
+    size_t starts[NOISE / HPSDR_FRAME];
+    set_out_noise(230);
     for (size_t length = 0; length <= NOISE; length += 26) {
         counts = read_plainly(plain.input[1], length, starts);
         read_plain("noise", length,
@@ -1458,6 +1503,161 @@ static void test_plain_refusals(void) {
     refuse_plain("65,537 bytes", 65537, 65537, HPSDR_LENGTH);
     refuse_plain("65,537 bytes to 65,536", 65537, 65536, HPSDR_LENGTH);
     refuse_plain("65,537 bytes to no output", 65537, 0, HPSDR_LENGTH);
+}
+
+static uint64_t reason_returned(enum hpsdr_reason reason, uint64_t detail) {
+    return (uint64_t)reason << 8 | detail << 32;
+}
+
+/* Asks about a place of the first so many bytes, and compares all 64 bits. */
+static void ask(const char *what, size_t length, size_t place, uint64_t should) {
+    const uint64_t is = hpsdr_why_byte(plain.input[1], length, place);
+    if (is != should)
+        report("%s, place %zu of %zu: got %016" PRIX64 ", expected %016" PRIX64, what, place, length, is, should);
+}
+
+static void expect_input_unchanged(void) { memcpy(plain_expected.input, plain.input, sizeof plain.input); }
+
+static void check_input_unchanged(const char *what) {
+    compare(what, "input", plain.input[0], plain_expected.input[0], sizeof plain.input);
+}
+
+static void test_why_by_hand(void) {
+    for (const struct input *input = inputs; input < inputs_end; input++) {
+        set_out_input(input);
+        expect_input_unchanged();
+        for (const struct asked *asked = input->asked; asked->reason != HPSDR_NOT_GIVEN; asked++)
+            ask(input->what, input->length, asked->place, reason_returned(asked->reason, asked->detail));
+        check_input_unchanged(input->what);
+    }
+}
+
+/* 512 bytes after the stray 7F stands the frame's last byte. */
+static void test_why_stray(void) {
+    const char *what = "a stray 7F before a frame";
+    set_out_stray();
+    ask(what, 516, 0, reason_returned(HPSDR_FAR_SYNC, 0));
+    ask(what, 516, 1, reason_returned(HPSDR_INSIDE, 1));
+    ask(what, 516, 512, reason_returned(HPSDR_INSIDE, 1));
+    ask(what, 516, 513, reason_returned(HPSDR_STILL_HELD, 0));
+    what = "a stray 7F before a frame that ends in 7F";
+    plain.input[1][512] = 0x7F;
+    ask(what, 516, 0, reason_returned(HPSDR_INSIDE, 0));
+    ask(what, 516, 511, reason_returned(HPSDR_INSIDE, 0));
+    ask(what, 516, 512, reason_returned(HPSDR_STILL_HELD, 0));
+}
+
+/* Any of the six bytes of the two syncs wrong, each by one bit: the first of them is told, the near ones before the far
+ * ones. One byte more than 515 would be needed for place 1. */
+static void test_why_sync(unsigned wrong, unsigned bit) {
+    static const size_t places[] = {0, 1, 2, 512, 513, 514};
+    unsigned first = 0;
+    set_out_plain();
+    put_sync(0);
+    put_sync(512);
+    for (unsigned at = 0; at < 6; at++)
+        if (wrong >> at & 1)
+            plain.input[1][places[at]] ^= (uint8_t)(1 << bit);
+    while (first < 6 && !(wrong >> first & 1))
+        first++;
+    ask("wrong bytes of sync", 515, 0,
+        first < 3   ? reason_returned(HPSDR_NEAR_SYNC, first)
+        : first < 6 ? reason_returned(HPSDR_FAR_SYNC, first - 3)
+                    : reason_returned(HPSDR_INSIDE, 0));
+    ask("the byte behind wrong bytes of sync", 515, 1, reason_returned(wrong ? HPSDR_STILL_HELD : HPSDR_INSIDE, 0));
+}
+
+/* The first and the last byte of each frame, those before the first frame, and the held ones. */
+static void test_why_longest(void) {
+    const char *what = "frames in the longest input";
+    for (size_t first = 0; first < 3; first++) {
+        size_t starts[128];
+        set_out_longest(first, starts);
+        expect_input_unchanged();
+        for (size_t place = 0; place < first; place++)
+            ask(what, HPSDR_INPUT_MOST, place, reason_returned(HPSDR_NEAR_SYNC, 0));
+        for (size_t number = 0; number < 127; number++) {
+            ask(what, HPSDR_INPUT_MOST, starts[number], reason_returned(HPSDR_INSIDE, starts[number]));
+            ask(what, HPSDR_INPUT_MOST, starts[number] + 511, reason_returned(HPSDR_INSIDE, starts[number]));
+        }
+        ask(what, HPSDR_INPUT_MOST, starts[127], reason_returned(HPSDR_STILL_HELD, 0));
+        ask(what, HPSDR_INPUT_MOST, HPSDR_INPUT_MOST - 1, reason_returned(HPSDR_STILL_HELD, 0));
+        check_input_unchanged(what);
+    }
+}
+
+/* The first of three bytes that is not 7F, or 3. */
+static size_t first_wrong(const uint8_t *bytes) {
+    size_t at = 0;
+    while (at < 3 && bytes[at] == 0x7F)
+        at++;
+    return at;
+}
+
+static uint64_t why_skipped(size_t place) {
+    const size_t near_wrong = first_wrong(plain.input[1] + place);
+    return near_wrong < 3 ? reason_returned(HPSDR_NEAR_SYNC, near_wrong)
+                          : reason_returned(HPSDR_FAR_SYNC, first_wrong(plain.input[1] + place + 512));
+}
+
+/* What is due of every place of the first so many bytes, where the plain reading of this file begins its frames. */
+static void tell_all(size_t length, uint64_t due[]) {
+    size_t starts[NOISE / HPSDR_FRAME], frame = 0, place = 0;
+    const struct hpsdr_counts counts = read_plainly(plain.input[1], length, starts);
+    while (place < length - counts.held)
+        if (frame < counts.frames && place == starts[frame]) {
+            for (; place < starts[frame] + HPSDR_FRAME; place++)
+                due[place] = reason_returned(HPSDR_INSIDE, starts[frame]);
+            frame++;
+        } else {
+            due[place] = why_skipped(place);
+            place++;
+        }
+    for (; place < length; place++)
+        due[place] = reason_returned(HPSDR_STILL_HELD, 0);
+}
+
+/* Half of the bytes are 7F, so that each reason comes, with each byte of a sync. */
+static void test_why_noise(void) {
+    uint64_t due[NOISE];
+    unsigned seen[2][3] = {{0}};
+    set_out_noise(128);
+    expect_input_unchanged();
+    for (size_t length = 0; length <= NOISE; length += 130) {
+        tell_all(length, due);
+        for (size_t place = 0; place < length; place++)
+            ask("noise", length, place, due[place]);
+    }
+    check_input_unchanged("noise");
+    for (size_t place = 0; place < NOISE; place++)
+        for (unsigned byte = 0; byte < 3; byte++) {
+            seen[0][byte] += due[place] == reason_returned(HPSDR_NEAR_SYNC, byte);
+            seen[1][byte] += due[place] == reason_returned(HPSDR_FAR_SYNC, byte);
+        }
+    for (unsigned byte = 0; byte < 3; byte++)
+        if (!seen[0][byte] || !seen[1][byte])
+            report("in noise byte %u of the near sync is told %u times, of the far sync %u times, expected more", byte,
+                   seen[0][byte], seen[1][byte]);
+}
+
+/* The input would give a frame, which begins at 0. */
+static void test_why_refusals(void) {
+    static const size_t places[] = {0, 1, 511, 65535, 65536, SIZE_MAX / 2 + 1, SIZE_MAX};
+    static const size_t lengths[] = {0, 1, 515, 65535, 65536};
+    set_out_plain();
+    put_sync(0);
+    put_sync(512);
+    expect_input_unchanged();
+    for (size_t at = 0; at < sizeof places / sizeof *places; at++) {
+        ask("65,537 bytes", 65537, places[at], HPSDR_LENGTH);
+        for (size_t of = 0; of < sizeof lengths / sizeof *lengths; of++)
+            if (places[at] >= lengths[of])
+                ask("a place beyond the input", lengths[of], places[at], HPSDR_RANGE);
+    }
+    for (size_t of = 0; of < sizeof lengths / sizeof *lengths; of++)
+        ask("the place behind the last", lengths[of], lengths[of], HPSDR_RANGE);
+    ask("65,537 bytes", 65537, 65537, HPSDR_LENGTH);
+    check_input_unchanged("refused reasons");
 }
 
 int main(void) {
@@ -1529,5 +1729,13 @@ int main(void) {
     test_plain_longest();
     test_plain_noise();
     test_plain_refusals();
+    test_why_by_hand();
+    test_why_stray();
+    for (unsigned wrong = 0; wrong < 64; wrong++)
+        for (unsigned bit = 0; bit < 8; bit++)
+            test_why_sync(wrong, bit);
+    test_why_longest();
+    test_why_noise();
+    test_why_refusals();
     return faults ? 1 : 0;
 }

@@ -493,6 +493,57 @@ static void test_at_once(void) {
     }
 }
 
+/* ---- the reasons, of the same bytes ---- */
+
+/* Calls both forms on a place of the first so many bytes that are recorded. */
+static void both_explain(size_t length, size_t place, const struct hpsdr_why *due) {
+    const struct hpsdr_why why = hpsdr_explain(recorded, length, place);
+    const uint64_t returned = hpsdr_why_byte(recorded, length, place);
+    check(why.got == due->got, "explain", "what is got is another", place);
+    check(why.reason == due->reason, "explain", "the reason is another", place);
+    check(why.start == due->start, "explain", "the frame's start is another", place);
+    check(why.byte == due->byte, "explain", "the byte of the sync is another", place);
+    check(returned == (due->got | (uint64_t)(due->start + due->byte) << 32), "explain", "the full form returns another",
+          place);
+}
+
+/* Without the first byte two of the first sync remain, and the first frame begins at 511. The byte at `wrong` is 0: of
+ * the sync at 512, which is the far one of place 0 and the near one of place 512, or, at 65,536, of none. */
+static void test_explain(void) {
+    static const struct {
+        size_t without, wrong, length, place;
+        struct hpsdr_why due;
+    } cases[] = {{0, 65536, 515, 0, {HPSDR_INSIDE << 8, HPSDR_INSIDE, 0, 0}},
+                 {0, 65536, 515, 511, {HPSDR_INSIDE << 8, HPSDR_INSIDE, 0, 0}},
+                 {0, 65536, 515, 512, {HPSDR_STILL_HELD << 8, HPSDR_STILL_HELD, 0, 0}},
+                 {0, 65536, 65536, 64512, {HPSDR_INSIDE << 8, HPSDR_INSIDE, 64512, 0}},
+                 {0, 65536, 65536, 65023, {HPSDR_INSIDE << 8, HPSDR_INSIDE, 64512, 0}},
+                 {0, 65536, 65536, 65024, {HPSDR_STILL_HELD << 8, HPSDR_STILL_HELD, 0, 0}},
+                 {0, 65536, 65536, 65535, {HPSDR_STILL_HELD << 8, HPSDR_STILL_HELD, 0, 0}},
+                 {1, 65536, 4096, 0, {HPSDR_NEAR_SYNC << 8, HPSDR_NEAR_SYNC, 0, 2}},
+                 {1, 65536, 4096, 1, {HPSDR_NEAR_SYNC << 8, HPSDR_NEAR_SYNC, 0, 1}},
+                 {1, 65536, 4096, 2, {HPSDR_NEAR_SYNC << 8, HPSDR_NEAR_SYNC, 0, 0}},
+                 {1, 65536, 4096, 511, {HPSDR_INSIDE << 8, HPSDR_INSIDE, 511, 0}},
+                 {0, 512, 1539, 0, {HPSDR_FAR_SYNC << 8, HPSDR_FAR_SYNC, 0, 0}},
+                 {0, 513, 1539, 0, {HPSDR_FAR_SYNC << 8, HPSDR_FAR_SYNC, 0, 1}},
+                 {0, 514, 1539, 0, {HPSDR_FAR_SYNC << 8, HPSDR_FAR_SYNC, 0, 2}},
+                 {0, 514, 1539, 512, {HPSDR_NEAR_SYNC << 8, HPSDR_NEAR_SYNC, 0, 2}},
+                 {0, 514, 1539, 1535, {HPSDR_INSIDE << 8, HPSDR_INSIDE, 1024, 0}},
+                 {0, 514, 1538, 1024, {HPSDR_STILL_HELD << 8, HPSDR_STILL_HELD, 0, 0}},
+                 {0, 65536, 515, 515, {HPSDR_RANGE, HPSDR_NOT_GIVEN, 0, 0}},
+                 {0, 65536, 0, 0, {HPSDR_RANGE, HPSDR_NOT_GIVEN, 0, 0}},
+                 {0, 65536, 65536, SIZE_MAX, {HPSDR_RANGE, HPSDR_NOT_GIVEN, 0, 0}},
+                 {0, 65536, 65537, 0, {HPSDR_LENGTH, HPSDR_NOT_GIVEN, 0, 0}},
+                 {0, 65536, 65537, 65537, {HPSDR_LENGTH, HPSDR_NOT_GIVEN, 0, 0}}};
+    for (size_t at = 0; at < sizeof cases / sizeof *cases; at++) {
+        record_without(cases[at].without);
+        recorded[cases[at].wrong] = 0;
+        memcpy(untouched, recorded, sizeof recorded);
+        both_explain(cases[at].length, cases[at].place, &cases[at].due);
+        check(memcmp(recorded, untouched, sizeof recorded) == 0, "explain", "the input is changed", at);
+    }
+}
+
 /* ---- the limits of each field ---- */
 
 enum { ANY = -1 };
@@ -659,6 +710,28 @@ static void test_parts_of_a_plain_reading(void) {
     }
 }
 
+static void test_parts_of_a_reason(void) {
+    static const struct {
+        uint64_t returned;
+        struct hpsdr_why why;
+    } parts[] = {{0, {0, 0, 0, 0}},
+                 {HPSDR_LENGTH, {3, 0, 0, 0}},
+                 {HPSDR_RANGE, {9, 0, 0, 0}},
+                 {UINT64_C(0x0000000000000100), {0x0100, HPSDR_INSIDE, 0, 0}},
+                 {UINT64_C(0x0000FDFD00000100), {0x0100, HPSDR_INSIDE, 65021, 0}},
+                 {UINT64_C(0xFFFFFFFF00000100), {0x0100, HPSDR_INSIDE, UINT32_MAX, 0}},
+                 {UINT64_C(0x0000000000000200), {0x0200, HPSDR_NEAR_SYNC, 0, 0}},
+                 {UINT64_C(0x0000000200000200), {0x0200, HPSDR_NEAR_SYNC, 0, 2}},
+                 {UINT64_C(0x0000000100000300), {0x0300, HPSDR_FAR_SYNC, 0, 1}},
+                 {UINT64_C(0x0000000000000400), {0x0400, HPSDR_STILL_HELD, 0, 0}},
+                 {UINT64_C(0x0000000700000400), {0x0400, HPSDR_STILL_HELD, 0, 0}},
+                 {UINT64_MAX, {UINT32_MAX, 255, 0, 0}}};
+    for (size_t at = 0; at < sizeof parts / sizeof *parts; at++) {
+        const struct hpsdr_why why = hpsdr_why_of(parts[at].returned);
+        check(memcmp(&why, &parts[at].why, sizeof why) == 0, "why_of", "a part is another", at);
+    }
+}
+
 static void test_words(void) {
     static const struct {
         uint32_t answer;
@@ -677,7 +750,7 @@ static void test_words(void) {
                  {7, "PADDING", "a padding byte is not 0"},
                  {8, "RESERVED",
                   "an unassigned host code or bit is set, or a level of a radio frame is above 4,095"},
-                 {9, "RANGE", "a value to be written does not fit"},
+                 {9, "RANGE", "a value to be written does not fit, or the place is not below the input's length"},
                  {10, "?", "this number is no answer"},
                  {255, "?", "this number is no answer"},
                  {256, "?", "this number is no answer"},
@@ -763,6 +836,37 @@ static void test_texts_without_a_place(void) {
         }
 }
 
+/* Each reason, refusals whatever stands beside them, and numbers that are no reason. */
+static void test_texts_of_reasons(void) {
+    static const struct {
+        struct hpsdr_why why;
+        const char *due;
+    } texts[] = {
+        {{0x0100, HPSDR_INSIDE, 0, 0}, "inside the frame handed out that begins at byte 0"},
+        {{0x0100, HPSDR_INSIDE, 1024, 0}, "inside the frame handed out that begins at byte 1024"},
+        {{0x0100, HPSDR_INSIDE, 65021, 0}, "inside the frame handed out that begins at byte 65021"},
+        {{0x0100, HPSDR_INSIDE, UINT32_MAX, 0}, "inside the frame handed out that begins at byte 4294967295"},
+        {{0x0200, HPSDR_NEAR_SYNC, 0, 0}, "skipped: byte 0 of the sync at this place is not 7F"},
+        {{0x0200, HPSDR_NEAR_SYNC, 0, 1}, "skipped: byte 1 of the sync at this place is not 7F"},
+        {{0x0200, HPSDR_NEAR_SYNC, 0, 2}, "skipped: byte 2 of the sync at this place is not 7F"},
+        {{0x0300, HPSDR_FAR_SYNC, 0, 0}, "skipped: byte 0 of the sync 512 bytes later is not 7F"},
+        {{0x0300, HPSDR_FAR_SYNC, 0, 1}, "skipped: byte 1 of the sync 512 bytes later is not 7F"},
+        {{0x0300, HPSDR_FAR_SYNC, 0, 2}, "skipped: byte 2 of the sync 512 bytes later is not 7F"},
+        {{0x0400, HPSDR_STILL_HELD, 0, 0}, "still held"},
+        {{HPSDR_LENGTH, HPSDR_NOT_GIVEN, 0, 0},
+         "the frame is not 512 bytes, the transfer is not 1 to 8 times 512, the piece is above 4,096, "
+         "or the input is above 65,536"},
+        {{HPSDR_RANGE, HPSDR_NOT_GIVEN, 0, 0},
+         "a value to be written does not fit, or the place is not below the input's length"},
+        {{0x0100 | HPSDR_RANGE, HPSDR_INSIDE, 1024, 0},
+         "a value to be written does not fit, or the place is not below the input's length"},
+        {{0, HPSDR_NOT_GIVEN, 0, 0}, "this number is no reason"},
+        {{0x0500, 5, 0, 0}, "this number is no reason"}};
+    char text[HPSDR_TEXT];
+    for (size_t at = 0; at < sizeof texts / sizeof *texts; at++)
+        check_text("why_text", hpsdr_why_text(texts[at].why, text), text, texts[at].due, at);
+}
+
 /* From the call to the text. */
 static void test_read_and_told(void) {
     char text[HPSDR_TEXT];
@@ -789,6 +893,12 @@ static void test_read_and_told(void) {
     given.frame[7] = 0x17;
     hpsdr_refusal_text(short_hear(&given), text);
     check(strcmp(text, "the transmit relay has the unassigned code 3") == 0, "hear", text, 2);
+    record_without(0);
+    recorded[514] = 0;
+    hpsdr_why_text(hpsdr_explain(recorded, 65536, 0), text);
+    check(strcmp(text, "skipped: byte 2 of the sync 512 bytes later is not 7F") == 0, "explain", text, 0);
+    hpsdr_why_text(hpsdr_explain(recorded, 65536, 1535), text);
+    check(strcmp(text, "inside the frame handed out that begins at byte 1024") == 0, "explain", text, 1535);
 }
 
 int main(void) {
@@ -807,15 +917,18 @@ int main(void) {
     }
     test_wrong_count();
     test_at_once();
+    test_explain();
     test_status_fields();
     test_host_fields();
     test_least_receivers_and_turns();
     test_parts();
     test_parts_of_a_plain_reading();
+    test_parts_of_a_reason();
     test_words();
     test_causes();
     test_texts_with_a_place();
     test_texts_without_a_place();
+    test_texts_of_reasons();
     test_read_and_told();
     return faults ? 1 : 0;
 }

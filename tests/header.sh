@@ -34,6 +34,8 @@ static_assert(HPSDR_CAUSE_SOURCE10 == 1 && HPSDR_CAUSE_RELAY == 2 && HPSDR_CAUSE
               HPSDR_CAUSE_WORD10_C1_BIT7 == 4, "causes of a host frame");
 static_assert(HPSDR_CAUSE_AIN5 == 5 && HPSDR_CAUSE_AIN1 == 6 && HPSDR_CAUSE_AIN2 == 7 && HPSDR_CAUSE_AIN3 == 8 &&
               HPSDR_CAUSE_AIN4 == 9 && HPSDR_CAUSE_AIN6 == 10, "causes of a radio frame");
+static_assert(HPSDR_NOT_GIVEN == 0 && HPSDR_INSIDE == 1 && HPSDR_NEAR_SYNC == 2 && HPSDR_FAR_SYNC == 3 &&
+              HPSDR_STILL_HELD == 4, "reasons");
 static_assert(HPSDR_TEXT == 128, "room for a text");
 static_assert(HPSDR_PTT_TO_RING == 0 && HPSDR_PTT_TO_TIP == 1, "codes of the jack");
 
@@ -52,6 +54,7 @@ static_assert(sizeof(((struct hpsdr_transfer *)0)->mic) == 504 * sizeof(int16_t)
 static_assert(sizeof(((struct hpsdr_stream *)0)->counts) == 4 * sizeof(uint64_t), "counts of a stream");
 static_assert(sizeof(((struct hpsdr_stream *)0)->held) == 514, "held bytes of a stream");
 static_assert(sizeof(struct hpsdr_plain) == 4 * sizeof(uint32_t), "numbers of a plain reading");
+static_assert(sizeof(struct hpsdr_why) == 4 * sizeof(uint32_t), "numbers of a reason");
 
 /* Declared once more, each with its type. */
 static inline enum hpsdr_answer hpsdr_answer_of(uint32_t got);
@@ -84,6 +87,9 @@ static inline uint32_t hpsdr_feed(struct hpsdr_stream *stream, const uint8_t *pi
                                   uint8_t output[4096]);
 static inline struct hpsdr_plain hpsdr_plain_of(uint64_t returned);
 static inline struct hpsdr_plain hpsdr_read_at_once(const uint8_t *input, size_t length, uint8_t *output);
+static inline struct hpsdr_why hpsdr_why_of(uint64_t returned);
+static inline struct hpsdr_why hpsdr_explain(const uint8_t *input, size_t length, size_t place);
+static inline const char *hpsdr_why_text(struct hpsdr_why why, char text[128]);
 END
 
 # The compiler, the language and its year.

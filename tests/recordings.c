@@ -1,5 +1,5 @@
 /* Reads the three recordings of examples/recording.sh by the header's short forms, in pieces and at once, and compares
- * what is handed out with frames that are drawn here by hand:
+ * what is handed out with frames that are drawn here by hand, and what is told of their bytes with what became of them:
  *     recordings LOST IMITATED STRAY
  * takes the recordings' files. Prints a line for each fault, and exits 1 if there is one. It is C and C++. */
 #include "faults.h"
@@ -168,6 +168,56 @@ static void test_reading_at_once(const struct recording *due) {
           due->count);
 }
 
+/* A place of a recording and its reason, with the frame's start or the byte of a sync. */
+struct asked {
+    size_t place;
+    enum hpsdr_reason reason;
+    uint32_t start, byte;
+};
+
+static void check_reason(const struct recording *in, const struct asked *due) {
+    const struct hpsdr_why why = hpsdr_explain(in->bytes, in->length, due->place);
+    check(hpsdr_answer_of(why.got) == HPSDR_ACCEPTED, in->name, "the place is refused", due->place);
+    check(why.reason == (uint32_t)due->reason, in->name, "the reason is another", due->place);
+    check(why.start == due->start, in->name, "the frame's start is another", due->place);
+    check(why.byte == due->byte, in->name, "the byte of the sync is another", due->place);
+}
+
+/* The first and the last byte of each frame, and all that are held. As many places as are left over were skipped. */
+static void test_reasons(const struct recording *due) {
+    size_t skipped = 0;
+    for (size_t at = 0; at < due->count; at++) {
+        const uint32_t start = (uint32_t)due->places[at];
+        const struct asked first = {start, HPSDR_INSIDE, start, 0}, last = {start + 511, HPSDR_INSIDE, start, 0};
+        check_reason(due, &first);
+        check_reason(due, &last);
+    }
+    for (size_t place = due->length - (size_t)due->held; place < due->length; place++) {
+        const struct asked held = {place, HPSDR_STILL_HELD, 0, 0};
+        check_reason(due, &held);
+    }
+    for (size_t place = 0; place < due->length; place++) {
+        const uint32_t reason = hpsdr_explain(due->bytes, due->length, place).reason;
+        skipped += reason == HPSDR_NEAR_SYNC || reason == HPSDR_FAR_SYNC;
+    }
+    check(skipped == due->skipped, due->name, "the reasons say of more or fewer bytes that they are skipped", skipped);
+    check(hpsdr_answer_of(hpsdr_explain(due->bytes, due->length, due->length).got) == HPSDR_RANGE, due->name,
+          "the place behind the last is not refused", due->length);
+}
+
+/* The skipped bytes of each recording begin with 7F 7F 7F: the sync of the unwhole frame in `lost`, C3, C4 and the first
+ * byte of I in `imitated`, the first frame's last byte and two of the second's sync in `stray`. 512 bytes later stand
+ * 20 17 11 in the first two and 44 7F 7F in the last, so byte 0 of the far sync is wrong. No 7F comes after. */
+static void test_skipped(const struct recording *in, size_t from, size_t to) {
+    static const struct asked first[] = {
+        {0, HPSDR_FAR_SYNC, 0, 0}, {1, HPSDR_NEAR_SYNC, 0, 2}, {2, HPSDR_NEAR_SYNC, 0, 1}, {3, HPSDR_NEAR_SYNC, 0, 0}};
+    for (size_t place = from; place < to; place++) {
+        struct asked due = first[place < from + 3 ? place - from : 3];
+        due.place = place;
+        check_reason(in, &due);
+    }
+}
+
 static int has_sync(const struct recording *in, size_t place) {
     return place + 3 <= in->length && memcmp(in->bytes + place, sync, 3) == 0;
 }
@@ -325,6 +375,12 @@ int main(int count, char **arguments) {
     test_reading_at_once(&lost);
     test_reading_at_once(&imitated);
     test_reading_at_once(&stray);
+    test_reasons(&lost);
+    test_reasons(&imitated);
+    test_reasons(&stray);
+    test_skipped(&lost, 2048, 2554);
+    test_skipped(&imitated, 1024, 1530);
+    test_skipped(&stray, 512, 513);
     test_after_a_false_match();
     test_last_frame();
     test_unwhole_last_frame();
