@@ -1,7 +1,7 @@
 //! Frames of the HPSDR USB Data Protocol 1.58, read and written: those that a radio sends for one to eight receivers
 //! ([`Status`], [`Samples`], [`layout`]), those that a host sends to it ([`Host`], [`Builder`]), and the reader that finds
 //! radio frames in a stream of bytes ([`frames`], [`Stream`]), with a plain one to hold against it, which reads a short
-//! recording at once ([`read_at_once`]).
+//! recording at once ([`read_at_once`]). [`explain`] tells why a byte of such a recording was thrown out.
 //!
 //! A program that prints the peak of each receiver in a recording of three, which comes on standard input:
 //!
@@ -37,6 +37,7 @@ mod samples;
 mod status;
 mod stream;
 mod transfer;
+mod why;
 
 pub use builder::Builder;
 pub use choices::{
@@ -51,6 +52,7 @@ pub use samples::Samples;
 pub use status::{Status, Word};
 pub use stream::{Counts, Stream};
 pub use transfer::Stopped;
+pub use why::{explain, Reason};
 
 /// Bytes of a frame.
 pub const FRAME: usize = 512;
@@ -69,7 +71,7 @@ pub const MOST_FRAMES: usize = 8;
 pub const AUDIO: usize = 252;
 /// The most bytes that a piece may have.
 pub const PIECE_MOST: usize = 4096;
-/// The most bytes that an input which is [read at once](read_at_once) may have.
+/// The most bytes that an input which is [read at once](read_at_once) or [explained](explain) may have.
 pub const INPUT_MOST: usize = 65_536;
 /// The least bytes that a stream's output must have.
 pub const OUTPUT_LEAST: usize = 4096;

@@ -7,8 +7,9 @@
 //! [`Cause`](crate::Cause). Beside every other answer it is 0. On a refusal a call found 0, but for the frames that
 //! [`hpsdr_radio_read_transfer`] read before the refused one.
 //!
-//! One call returns 64 bits, [`hpsdr_plain_read`]. Above these 32 it has the number of bytes skipped, in bits 47 to 32, and
-//! the number of bytes left, in bits 63 to 48; on a refusal both are 0.
+//! Two calls return 64 bits. Above these 32 [`hpsdr_plain_read`] has the number of bytes skipped, in bits 47 to 32, and the
+//! number of bytes left, in bits 63 to 48; [`hpsdr_why_byte`] has a detail of what it found, in bits 63 to 32. On a refusal
+//! they are 0.
 //!
 //! ```
 //! use hpsdr::raw;
@@ -169,7 +170,8 @@ extern "C" {
         output_length: usize,
     ) -> u64;
 
-    /// Why the byte at a place of an input of at most 65,536 bytes was thrown out, or where it went; found is the reason's
-    /// number, 1 to 4. In bits 63 to 32 is what belongs to it: the frame's start, or the byte of sync.
+    /// Tells why a byte of an input of at most 65,536 bytes was handed out, skipped or held; found is the number of the
+    /// reason: 1 inside a frame, 2 the near sync, 3 the far sync, 4 held. In bits 63 to 32 is the detail: the frame's start
+    /// for 1, the byte of the sync for 2 and 3, and 0 for 4.
     pub fn hpsdr_why_byte(input: *const u8, input_length: usize, place: usize) -> u64;
 }

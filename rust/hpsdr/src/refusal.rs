@@ -65,7 +65,7 @@ pub enum Refusal {
         /// Which one.
         cause: Cause,
     },
-    /// 9: a value to be written does not fit.
+    /// 9: a value to be written does not fit, or the place is not below the input's length.
     Range,
 }
 
@@ -105,7 +105,9 @@ impl fmt::Display for Refusal {
                 return write!(formatter, "padding byte {byte} is not zero")
             }
             Refusal::Reserved { cause } => return cause.fmt(formatter),
-            Refusal::Range => "a value to be written does not fit",
+            Refusal::Range => {
+                "a value to be written does not fit, or the place is not below the input's length"
+            }
         })
     }
 }

@@ -1,5 +1,6 @@
 //! What the header's calls return, all 32 bits of it: the answer in bits 7 to 0, what was found in bits 15 to 8, and the
-//! place in bits 31 to 16, which are 0 but beside refusals 6, 7 and 8. The plain reader's 64 have two counts above them.
+//! place in bits 31 to 16, which are 0 but beside refusals 6, 7 and 8. The plain reader's 64 have two counts above them,
+//! and a reason's 64 its detail.
 
 mod common;
 
@@ -365,6 +366,33 @@ fn counts_of_a_plain_read() {
     assert_eq!(plain_read(&sync, 65_537), 3);
     assert_eq!(plain_read(&sync, 0), 3);
     assert_eq!(plain_read(&sync[..515], 514), 4);
+}
+
+fn why_byte(input: &[u8], place: usize) -> u64 {
+    // SAFETY: the pointer and the number are those of one slice.
+    unsafe { raw::hpsdr_why_byte(input.as_ptr(), input.len(), place) }
+}
+
+/// In bytes that are all 7F a frame begins every 512, the last at 64,512, which is FC 00. Then with one of the bytes 512 to
+/// 514 at 0: it is one of the far sync of place 0, and of the near sync of the places up to it.
+#[test]
+fn details_of_a_reason() {
+    let sync = [0x7F; 65_537];
+    assert_eq!(why_byte(&sync[..515], 0), 0x0000_0000_0000_0100);
+    assert_eq!(why_byte(&sync[..515], 514), 0x0000_0000_0000_0400);
+    assert_eq!(why_byte(&sync[..65_536], 65_023), 0x0000_FC00_0000_0100);
+    assert_eq!(why_byte(&sync[..65_536], 65_535), 0x0000_0000_0000_0400);
+    for byte in 0..3 {
+        let mut wrong = sync;
+        wrong[512 + byte] = 0;
+        let detail = (byte as u64) << 32;
+        assert_eq!(why_byte(&wrong[..515], 0), detail | 0x0300);
+        assert_eq!(why_byte(&wrong[512..][..515], 0), detail | 0x0200);
+    }
+    assert_eq!(why_byte(&sync, 0), 3);
+    assert_eq!(why_byte(&sync, 65_537), 3);
+    assert_eq!(why_byte(&sync[..65_536], 65_536), 9);
+    assert_eq!(why_byte(&[], 0), 9);
 }
 
 #[test]

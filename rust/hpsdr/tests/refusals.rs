@@ -4,7 +4,8 @@ mod common;
 
 use common::frame;
 use hpsdr::{
-    layout, read_at_once, Builder, Cause, Host, Refusal, Samples, Status, Stream, Word, AUDIO,
+    explain, layout, read_at_once, Builder, Cause, Host, Refusal, Samples, Status, Stream, Word,
+    AUDIO,
 };
 use std::error::Error;
 use std::io;
@@ -526,6 +527,20 @@ fn at_once() {
     }
 }
 
+/// A longer input first, whatever the place. Two places would be 0 if they were cut to 16 or to 32 bits.
+#[test]
+fn explained() {
+    let bytes = vec![0x7F; 65_537];
+    for place in [0, 65_535, 65_536, 65_537, usize::MAX] {
+        assert_eq!(explain(&bytes, place), Err(Refusal::Length));
+    }
+    for length in [0, 1, 514, 515, 65_535, 65_536] {
+        for place in [length, length + 1, 65_536, 1 << 32, usize::MAX] {
+            assert_eq!(explain(&bytes[..length], place), Err(Refusal::Range));
+        }
+    }
+}
+
 fn says(refusal: Refusal, number: u8, text: &str) {
     assert_eq!(refusal.number(), number);
     assert_eq!(refusal.to_string(), text);
@@ -546,7 +561,8 @@ fn numbers_and_texts_without_a_place() {
     says(Refusal::ShortBuffer, 4, short);
     let full = "more than 2^48 bytes would have been fed";
     says(Refusal::StreamFull, 5, full);
-    says(Refusal::Range, 9, "a value to be written does not fit");
+    let range = "a value to be written does not fit, or the place is not below the input's length";
+    says(Refusal::Range, 9, range);
 }
 
 #[test]
