@@ -7,6 +7,7 @@ mod machine;
 mod plain;
 mod radio;
 mod stream;
+mod why;
 
 use contest::Row;
 use std::process::ExitCode;
@@ -18,7 +19,8 @@ Times are medians. A ratio above 1 means that the library is faster. The copies 
 as a call takes in or gives out. The number after a radio call is its receivers; a transfer is eight
 frames, beside as many single calls; a stream's frame is 512 bytes of input, in pieces of 4,096, and
 of 512 where a call takes one frame. So is a plain read's, of an input of 65,536 bytes, beside the
-stream's calls on the same from fresh, in pieces of 4,096.
+stream's calls on the same from fresh, in pieces of 4,096. A why is asked of the last byte of such an
+input, for which all of it is read, beside a plain read of the same.
 ";
 
 const COLUMNS: [&str; 7] = [
@@ -71,6 +73,9 @@ fn print_table() -> Result<(), String> {
         print_row(entry.row()?);
     }
     for entry in plain::Read::entries() {
+        print_row(entry.row()?);
+    }
+    for entry in why::Byte::entries() {
         print_row(entry.row()?);
     }
     Ok(())
