@@ -1,0 +1,6 @@
+pub mod Words
+pub mod Parts
+pub mod Sentence
+pub mod Window
+pub mod Run
+pub mod Shown
