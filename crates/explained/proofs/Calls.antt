@@ -12,7 +12,7 @@ use Rattle.text.specs.Put.{gave, putOf}
 use Rattle.text.proofs.Puts.{put-start}
 use Rattle.why.specs.declared.Reason.{Reason}
 use Rattle.why.specs.declared.Reason.the-variants.{Inside}
-use Rattle.why.specs.declared.Run.{Run}
+use Rattle.why.specs.declared.runs.Run.{Run}
 use Rattle.explained.specs.Run.{noRun, runText, runOf, pastEndText, pastEndOf}
 use Rattle.explained.specs.Sentence.{noReason}
 use Rattle.explained.specs.Shown.{noPlace, shownText, shownOf}

@@ -8,7 +8,7 @@ use Rattle.text.specs.Numbers.{commas}
 use Rattle.text.specs.Put.{Written, gave, written}
 use Rattle.why.specs.declared.Reason.{Reason}
 use Rattle.why.specs.declared.Reason.the-variants.{NotGiven, Inside, Near, Far, Held}
-use Rattle.why.specs.declared.Run.{Run}
+use Rattle.why.specs.declared.runs.Run.{Run}
 use Rattle.explained.specs.Parts.{labelledOf, wrongOf, countedOf, subjectOf}
 use Rattle.explained.specs.Sentence.{noReason}
 use Rattle.explained.specs.Words.{wasHandedOut, wereHandedOut, wasSkipped, wereSkipped, syncAtByte, isHeld, areHeld, oneFrame, manyFrames, oneByte, manyBytes, pastEnd}

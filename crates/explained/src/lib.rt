@@ -9,6 +9,7 @@ pub(crate) mod runs;
 pub(crate) mod sentence;
 pub(crate) mod window;
 
+use why::MOST;
 use why::Reason;
 use why::Run;
 ghost use mathlib.Core.Path.{_≡_};
@@ -22,9 +23,6 @@ pub const SHOWN: usize = 512;
 
 // Room for any line about a run, and for the line about a place past the end.
 pub const LINE: usize = 128;
-
-// No input is longer.
-const MOST: usize = 65536;
 
 // The reason of a place in a sentence, and the bytes around the place and wherever else the test at it
 // looked.
