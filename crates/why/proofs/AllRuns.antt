@@ -14,10 +14,13 @@ use Rattle.why.proofs.TrueRun.{run-is-true}
 
 module _ (s : List ℕ) where
   -- a run can begin there, or the input has ended
-  abbrev Here : ℕ → Type 0
+  abbrev pub Here : ℕ → Type 0
   Here start = (start ≡ length s) ⊎ Comes s start
 
-  true-here : (start : ℕ) → Here start → start < length s → TrueRun s start (runOf s start)
+  pub here-first : Here 0
+  here-first = inr (comes-first s)
+
+  pub true-here : (start : ℕ) → Here start → start < length s → TrueRun s start (runOf s start)
   true-here start here inside = ⊎-elim (λ end. absurd (omega arith)) (λ comes. run-is-true s start comes inside) here
 
   told-from : (runs : List Run) (start : ℕ) → Here start → RunsFrom s start runs → (p : ℕ) → start ≤ p → p < length s → ToldIn s p start runs
@@ -28,7 +31,7 @@ module _ (s : List ℕ) where
       (λ past. inr (told-from runs (run .end) (is-true .next) (going .2) p past to))
 
   pub runs-tell-all : (runs : List Run) → RunsFrom s 0 runs → (p : ℕ) → p < length s → ToldIn s p 0 runs
-  runs-tell-all runs going p inside = told-from runs 0 (inr (comes-first s)) going p (omega arith) inside
+  runs-tell-all runs going p inside = told-from runs 0 here-first going p (omega arith) inside
 
   -- and every input has such runs
   made-from : (n start : ℕ) → Here start → length s ≤ start + n → (runs : List Run) × RunsFrom s start runs
@@ -42,4 +45,4 @@ module _ (s : List ℕ) where
       (λ end. ([], end))
 
   pub every-input-has-runs : (runs : List Run) × RunsFrom s 0 runs
-  every-input-has-runs = made-from (length s) 0 (inr (comes-first s)) (omega arith)
+  every-input-has-runs = made-from (length s) 0 here-first (omega arith)
