@@ -122,7 +122,8 @@ fn count_told(tally: &mut Tally, told: &why::Told) {
 /// One byte asked of, or now and then every byte of an input.
 fn why(run: Run) -> Result<(), Differs> {
     let differs = |difference| (why::Ask::CALL.name, difference);
-    if run.number % why::WHOLE_EVERY != 0 {
+    let (turn, rest) = (run.number / why::WHOLE_EVERY, run.number % why::WHOLE_EVERY);
+    if rest > 0 {
         let case = made::<why::Ask>(run.number, run.random);
         let told = case.told(&run.guards).map_err(differs)?;
         count_told(run.tally, &told);
@@ -130,7 +131,7 @@ fn why(run: Run) -> Result<(), Differs> {
     }
     let mut draw = Draw {
         random: run.random,
-        turn: run.number / why::WHOLE_EVERY,
+        turn,
     };
     let whole = why::every_byte(&mut draw, &run.guards).map_err(differs)?;
     let lines = lines(plain::Read::CALL, why::WHOLE, |part| (part.holds)(&whole));
@@ -211,7 +212,7 @@ const KINDS: &[Kind] = &[
         theme: Some(&FRAMES_CUT),
         ..kind::<stream::Feed>(2)
     },
-    // One in 256 is some thousand calls.
+    // One in so many is some thousand calls.
     Kind {
         run: why,
         lines: || {
