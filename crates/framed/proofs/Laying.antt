@@ -11,9 +11,9 @@ use lib.ListN.{length, getD, take, drop, set, length-append, length-drop}
 use lib.Seq.{sets-eq, take-all, drop-drop, length-take-le}
 use Rattle.wire.proofs.Lists.{sets-all}
 use Rattle.hexline.specs.Lines.{newline}
-use Rattle.hexline.specs.Printed.{gave, written}
-use Rattle.hexline.specs.Put.{Put}
-use Rattle.hexline.proofs.Puts.{put-none, put-one, put-then, put-length, put-whole}
+use Rattle.text.specs.Put.{gave, written}
+use Rattle.text.specs.Put.{Put}
+use Rattle.text.proofs.Puts.{put-none, put-one, put-then, put-length, put-whole}
 use Rattle.framed.specs.Hexadecimal.{digitOf, digitsOf, lineOf, frameAt, linesOf}
 use Rattle.framed.specs.Texts.{linesWritten}
 use Rattle.framed.proofs.Digits.{digits-more, digits-length}

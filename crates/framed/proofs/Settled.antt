@@ -3,7 +3,7 @@ use mathlib.Core.Path.{_≡_, ap}
 use mathlib.Core.List.{List}
 use Prim.Native.Nat.{ℕ}
 use Rattle.wire.proofs.Settled.{settled}
-use Rattle.hexline.specs.Printed.{Written, gave}
+use Rattle.text.specs.Put.{Written, gave}
 use Rattle.framed.specs.Texts.{linesWritten}
 
 pub lines-settled : (frames : List ℕ) (count : ℕ) (out : List ℕ) (r s : ℕ) (one other : List ℕ)

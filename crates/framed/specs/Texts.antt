@@ -4,7 +4,7 @@ use mathlib.Core.Bool.{Bool, cond, _||_}
 use mathlib.Core.List.{List, [], _∷_, _++_}
 use lib.Dec.{ltb}
 use lib.ListN.{length}
-use Rattle.hexline.specs.Printed.{Written, gave, written}
+use Rattle.text.specs.Put.{Written, gave, written}
 use Rattle.stream.specs.Run.{Call, called}
 use Rattle.stream.specs.declared.Stream.{Stream}
 use Rattle.framed.specs.Hexadecimal.{linesOf}

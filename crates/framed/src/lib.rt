@@ -6,7 +6,7 @@
 ghost use mathlib.Core.Path.{_≡_};
 ghost use Prim.Native.Nat.{_<_};
 ghost use lib.ListN.{length};
-ghost use Rattle.hexline.specs.Printed.{gave};
+ghost use Rattle.text.specs.Put.{gave};
 ghost use Rattle.framed.specs.Hexadecimal.{digitOf, lineOf};
 ghost use Rattle.framed.specs.Texts.{linesWritten};
 

@@ -14,7 +14,7 @@ use Rattle.stream.specs.declared.Stream.{Stream}
 use Rattle.stream.proofs.Cut.{however-cut}
 use Rattle.stream.proofs.Runs.{all-accepted}
 use Rattle.stream.proofs.Sound.{fresh-kept}
-use Rattle.hexline.specs.Printed.{Written, gave, written}
+use Rattle.text.specs.Put.{Written, gave, written}
 use Rattle.framed.specs.Hexadecimal.{linesOf}
 use Rattle.framed.specs.Texts.{printedBy}
 use Rattle.framed.proofs.WholeInput.{whole-input}

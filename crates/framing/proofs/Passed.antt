@@ -16,8 +16,8 @@ use Rattle.stream.specs.declared.Fed.{Fed}
 use Rattle.stream.specs.declared.Stream.{Stream}
 use Rattle.stream.proofs.Cut.{at-most-eight}
 use Rattle.stream.proofs.Sound.{next-sound}
-use Rattle.hexline.specs.Printed.{gave, written}
-use Rattle.hexline.proofs.Puts.{written-inside}
+use Rattle.text.specs.Put.{gave, written}
+use Rattle.text.proofs.Puts.{written-inside}
 use Rattle.framed.specs.Hexadecimal.{linesOf}
 use Rattle.framed.specs.Texts.{linesWritten}
 use Rattle.framed.proofs.Laying.{lines-fit}

@@ -8,7 +8,7 @@ use lib.ListN.{length, take}
 use Rattle.io.specs.Counts.{clamped}
 use Rattle.stream.specs.Feed.{feedOf}
 use Rattle.stream.specs.declared.Stream.{Stream}
-use Rattle.hexline.specs.Printed.{gave, written}
+use Rattle.text.specs.Put.{gave, written}
 use Rattle.framed.specs.Hexadecimal.{linesOf}
 use Rattle.framing.specs.declared.Passing.{Passing}
 

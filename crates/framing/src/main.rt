@@ -13,7 +13,7 @@ use libc::STDOUT_FILENO;
 use stream::Stream;
 ghost use mathlib.Core.Path.{_≡_};
 ghost use mathlib.Core.Bool.{true, false};
-ghost use Rattle.hexline.specs.Printed.{gave};
+ghost use Rattle.text.specs.Put.{gave};
 ghost use Rattle.hexline.specs.Tally.{tallyOf};
 ghost use Rattle.stream.specs.Record.{soundOf};
 ghost use Rattle.framing.specs.Pass.{Buffers, bytesRead, Passes, PassesSome};

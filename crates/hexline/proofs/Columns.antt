@@ -9,17 +9,18 @@ use lib.ListN.{length, length-append}
 use Rattle.wire.specs.Answers.{numberOf}
 use Rattle.wire.specs.Fields.{flag}
 use Rattle.wire.specs.declared.Answer.{Answer}
-use Rattle.hexline.proofs.Decimal.{one-digit, decimal-length}
-use Rattle.hexline.proofs.Puts.{put-then, put-whole, put-length}
 use Rattle.hexline.specs.Lines.{newline}
-use Rattle.hexline.specs.Printed.{space, hyphen, decimalOf, spaced, ended, acceptedColumns, refusedColumns, textOf, gave, rowOf}
-use Rattle.hexline.specs.Put.{Room, Put}
+use Rattle.text.specs.Numbers.{decimalOf}
+use Rattle.text.specs.Put.{gave, putOf}
+use Rattle.text.proofs.Numbers.{one-digit, decimal-length}
+use Rattle.text.proofs.Puts.{and-then, put-start}
+use Rattle.hexline.specs.Printed.{space, hyphen, spaced, ended, acceptedColumns, refusedColumns, textOf, rowOf}
 
 flag-digit : (b : Bool) → decimalOf (flag b) ≡ (0x30 + flag b) ∷ []
 flag-digit true = one-digit 1 (omega arith)
 flag-digit false = one-digit 0 (omega arith)
 
-pub byte-length : (n : ℕ) → n < 256 → length (decimalOf n) ≤ 3
+byte-length : (n : ℕ) → n < 256 → length (decimalOf n) ≤ 3
 byte-length n h = decimal-length 2 n (omega arith)
 
 pub number-length : (n : ℕ) → n < 2 ^ 64 → length (decimalOf n) ≤ 20
@@ -39,7 +40,7 @@ module _ (address : ℕ) (dot dash ptt : Bool) where
       rw (flag-digit dot, flag-digit dash, flag-digit ptt)
       (ap (λ l. space ∷ l) (append-assoc (decimalOf address) _ (newline ∷ [])))
 
-  pub accepted-length : length acceptedText ≡ length (decimalOf address) + 8
+  accepted-length : length acceptedText ≡ length (decimalOf address) + 8
   accepted-length = ap length address-first ∙ rw (length-append (space ∷ decimalOf address) (flagsText (0x30 + flag dot) (0x30 + flag dash) (0x30 + flag ptt))) (omega arith)
 
   pub accepted-short : address < 256 → length acceptedText ≤ 11
@@ -73,34 +74,27 @@ pub record Begun (number : ℕ) (answer : Answer) (out : List ℕ) (second : ℕ
   pub room : 64 ≤ length out
   pub fits : number < 2 ^ 64
   pub small : numberOf answer < 256
-  pub put : Put out 0 (firstTwo number answer) second begun
+  pub put : gave second begun ≡ putOf out 0 (firstTwo number answer)
 
 module _ {number : ℕ} {answer : Answer} {out : List ℕ} {second : ℕ} {begun : List ℕ} (b : Begun number answer out second begun) where
-  pub begun-length : length (firstTwo number answer) ≤ 24
+  begun-length : length (firstTwo number answer) ≤ 24
   begun-length =
       rw (length-append (decimalOf number) (space ∷ decimalOf (numberOf answer)))
       (omega (arith, number-length number (b .fits), byte-length (numberOf answer) (b .small)))
 
-  -- there is room for the columns that follow
-  pub begun-room : (rest : List ℕ) → length rest ≤ 11 → Room begun second rest
-  begun-room rest short = omega (arith, begun-length, b .put .place, put-length out 0 (b .put))
-
   module _ (address : ℕ) (dot dash ptt : Bool) where
-    pub accepted-room : address < 256 → Room begun second (acceptedText address dot dash ptt)
-    accepted-room byte = begun-room (acceptedText address dot dash ptt) (accepted-short address dot dash ptt byte)
-
     row-ends : {third : ℕ} {after : List ℕ} (rest : List ℕ) → length rest ≤ 11 → textOf number answer address dot dash ptt ≡ firstTwo number answer ++ rest
-        → Put begun second rest third after → gave third after ≡ rowOf number answer address dot dash ptt out
+        → gave third after ≡ putOf begun second rest → gave third after ≡ rowOf number answer address dot dash ptt out
     unfolding rowOf
-    row-ends {third} {after} rest short e put =
+    row-ends rest short e put =
         let inside : length (firstTwo number answer ++ rest) ≤ length out = rw (length-append (firstTwo number answer) rest) (omega (arith, begun-length)) in
-        rw (le-ltb (length out) 64 (b .room), e) (put-whole out (firstTwo number answer ++ rest) third after inside (put-then out 0 (b .put) put))
+        rw (le-ltb (length out) 64 (b .room), e) (and-then _ _ _ _ (b .put) put ∙ put-start out (firstTwo number answer ++ rest) inside)
 
-    pub row-accepted : {third : ℕ} {after : List ℕ} → address < 256 → numberOf answer ≡ 0 → Put begun second (acceptedText address dot dash ptt) third after
+    pub row-accepted : {third : ℕ} {after : List ℕ} → address < 256 → numberOf answer ≡ 0 → gave third after ≡ putOf begun second (acceptedText address dot dash ptt)
         → gave third after ≡ rowOf number answer address dot dash ptt out
     row-accepted byte e = row-ends (acceptedText address dot dash ptt) (accepted-short address dot dash ptt byte) (accepted-text number answer address dot dash ptt e)
 
-    pub row-refused : {third : ℕ} {after : List ℕ} → (numberOf answer ≡ 0 → ⊥) → Put begun second refusedText third after
+    pub row-refused : {third : ℕ} {after : List ℕ} → (numberOf answer ≡ 0 → ⊥) → gave third after ≡ putOf begun second refusedText
         → gave third after ≡ rowOf number answer address dot dash ptt out
     row-refused e = row-ends refusedText (omega arith) (refused-text number answer address dot dash ptt e)
 

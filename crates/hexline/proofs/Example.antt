@@ -8,7 +8,8 @@ use lib.ListN.{replicate}
 use Rattle.wire.specs.declared.Answer.the-variants.{Accepted, Length, NoSync}
 use Rattle.hexline.proofs.Split.{unbroken, line-first}
 use Rattle.hexline.specs.Lines.{Content, aFrame, noFrame, lines, contentOf, newline}
-use Rattle.hexline.specs.Printed.{decimalIn, decimalOf, textOf}
+use Rattle.text.specs.Numbers.{groupsIn, decimalOf}
+use Rattle.hexline.specs.Printed.{textOf}
 use Rattle.hexline.specs.Tally.{tallyText}
 
 -- the digits `7f7f7f0c01f40000`, of which line 2 differs in the second, and 1,008 zeros
@@ -53,7 +54,7 @@ pub three-rows : (byte : ℕ) → textOf 1 Accepted 1 true false false ∷ textO
     ∷ (0x32 ∷ 0x20 ∷ 0x36 ∷ 0x20 ∷ 0x2d ∷ 0x20 ∷ 0x2d ∷ 0x20 ∷ 0x2d ∷ 0x20 ∷ 0x2d ∷ 0x0a ∷ [])
     ∷ (0x33 ∷ 0x20 ∷ 0x33 ∷ 0x20 ∷ 0x2d ∷ 0x20 ∷ 0x2d ∷ 0x20 ∷ 0x2d ∷ 0x20 ∷ 0x2d ∷ 0x0a ∷ [])
     ∷ []
-unfolding decimalIn decimalOf textOf
+unfolding groupsIn decimalOf textOf
 three-rows byte = refl
 
 -- 1,023 digits, 1,025, an `F` among them, and a carriage return after them
@@ -66,5 +67,5 @@ pub closing-line : tallyText 10 506 512
     ∷ 0x2c ∷ 0x20 ∷ 0x62 ∷ 0x79 ∷ 0x74 ∷ 0x65 ∷ 0x73 ∷ 0x20 ∷ 0x73 ∷ 0x6b ∷ 0x69 ∷ 0x70 ∷ 0x70 ∷ 0x65 ∷ 0x64 ∷ 0x20 ∷ 0x35 ∷ 0x30 ∷ 0x36
     ∷ 0x2c ∷ 0x20 ∷ 0x62 ∷ 0x79 ∷ 0x74 ∷ 0x65 ∷ 0x73 ∷ 0x20 ∷ 0x68 ∷ 0x65 ∷ 0x6c ∷ 0x64 ∷ 0x20 ∷ 0x35 ∷ 0x31 ∷ 0x32 ∷ 0x0a
     ∷ [])
-unfolding decimalIn decimalOf tallyText
+unfolding groupsIn decimalOf tallyText
 closing-line = refl

@@ -1,8 +1,6 @@
 -- Laws of digits, of the reader of lines and of printed rows, and the theorems about whole texts.
 pub mod Values
 pub mod Steps
-pub mod Puts
-pub mod Decimal
 pub mod Columns
 pub mod Tallied
 pub mod Present

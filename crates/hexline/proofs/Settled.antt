@@ -4,7 +4,8 @@ use mathlib.Core.Bool.{Bool}
 use mathlib.Core.List.{List}
 use Prim.Native.Nat.{ℕ}
 use Rattle.wire.specs.declared.Answer.{Answer}
-use Rattle.hexline.specs.Printed.{Written, rowOf}
+use Rattle.text.specs.Put.{Written}
+use Rattle.hexline.specs.Printed.{rowOf}
 use Rattle.hexline.specs.Reader.{freshReader, takeOf, endOf}
 use Rattle.hexline.specs.Tally.{tallyOf}
 use Rattle.hexline.specs.declared.Reader.{Reader}

@@ -4,4 +4,3 @@ pub mod Reader
 pub mod Text
 pub mod Printed
 pub mod Tally
-pub mod Put

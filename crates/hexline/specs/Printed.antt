@@ -1,28 +1,21 @@
 -- Document 01, "The listing program": the row that is printed for a line. Assumes nothing.
-use Prim.Native.Nat.{ℕ, zero, suc, _+_, _/_, _%_}
+use Prim.Native.Nat.{ℕ}
 use mathlib.Core.Bool.{Bool, cond}
 use mathlib.Core.List.{List, [], _∷_, _++_}
 use lib.Dec.{eqb, ltb}
-use lib.ListN.{length, drop}
+use lib.ListN.{length}
 use Rattle.hexline.specs.Lines.{newline}
 use Rattle.wire.specs.Answers.{numberOf}
 use Rattle.wire.specs.Fields.{flag}
 use Rattle.wire.specs.declared.Answer.{Answer}
+use Rattle.text.specs.Numbers.{decimalOf}
+use Rattle.text.specs.Put.{Written, gave, written}
 
 abbrev pub space : ℕ
 space = 0x20
 
 abbrev pub hyphen : List ℕ
 hyphen = 0x2d ∷ []
-
--- the digits of n, of which there are at most as many as the first number says
-unfoldable pub decimalIn : ℕ → ℕ → List ℕ
-decimalIn zero n = []
-decimalIn (suc k) n = cond (ltb n 10) ((0x30 + n) ∷ []) (decimalIn k (n / 10) ++ ((0x30 + n % 10) ∷ []))
-
--- "in decimal": no zero stands in front
-unfoldable pub decimalOf : ℕ → List ℕ
-decimalOf n = decimalIn (suc n) n
 
 -- "one space between"
 abbrev pub spaced : List (List ℕ) → List ℕ
@@ -46,18 +39,6 @@ ended text = text ++ (newline ∷ [])
 
 unfoldable pub textOf : ℕ → Answer → ℕ → Bool → Bool → Bool → List ℕ
 textOf number answer address dot dash ptt = ended (spaced (columns number answer address dot dash ptt))
-
--- how many bytes were written, and the lent slice afterwards
-pub record Written : Type 0 where
-  pub count : ℕ
-  pub out : List ℕ
-
-abbrev pub gave : ℕ → List ℕ → Written
-gave count out = record { count = count; out = out }
-
--- the text at the start of a slice, which keeps its remainder
-abbrev pub written : List ℕ → List ℕ → Written
-written text out = gave (length text) (text ++ drop (length text) out)
 
 unfoldable pub rowOf : ℕ → Answer → ℕ → Bool → Bool → Bool → List ℕ → Written
 rowOf number answer address dot dash ptt out = cond (ltb (length out) 64) (gave 0 out) (written (textOf number answer address dot dash ptt) out)

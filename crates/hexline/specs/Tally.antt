@@ -4,7 +4,9 @@ use mathlib.Core.Bool.{cond}
 use mathlib.Core.List.{List, [], _∷_, _++_}
 use lib.Dec.{ltb}
 use lib.ListN.{length}
-use Rattle.hexline.specs.Printed.{Written, decimalOf, ended, gave, written}
+use Rattle.text.specs.Numbers.{decimalOf}
+use Rattle.text.specs.Put.{Written, gave, written}
+use Rattle.hexline.specs.Printed.{ended}
 
 -- "frames: handed out "
 abbrev pub handedLabel : List ℕ

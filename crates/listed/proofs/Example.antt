@@ -6,7 +6,8 @@ use Rattle.layout.specs.Slots.{slots, padding}
 use Rattle.radio_status.specs.Words.{applied}
 use Rattle.radio.specs.Read.{answerOf, readOf}
 use Rattle.hexline.specs.Lines.{Content, contentOf, lines, numbered}
-use Rattle.hexline.specs.Printed.{decimalIn, decimalOf, textOf}
+use Rattle.text.specs.Numbers.{groupsIn, decimalOf}
+use Rattle.hexline.specs.Printed.{textOf}
 use Rattle.hexline.proofs.Example.{text, frameFrom, three-lines}
 use Rattle.listed.specs.Rows.{readingOf, rowText, rowsOf, listingOf}
 
@@ -24,5 +25,5 @@ pub three-rows : listingOf text
     ∷ 0x32 ∷ 0x20 ∷ 0x36 ∷ 0x20 ∷ 0x2d ∷ 0x20 ∷ 0x2d ∷ 0x20 ∷ 0x2d ∷ 0x20 ∷ 0x2d ∷ 0x0a
     ∷ 0x33 ∷ 0x20 ∷ 0x33 ∷ 0x20 ∷ 0x2d ∷ 0x20 ∷ 0x2d ∷ 0x20 ∷ 0x2d ∷ 0x20 ∷ 0x2d ∷ 0x0a
     ∷ [])
-unfolding rowText readingOf readOf answerOf slots padding applied textOf decimalOf decimalIn frameFrom
+unfolding rowText readingOf readOf answerOf slots padding applied textOf decimalOf groupsIn frameFrom
 three-rows = by-content 1 (lines text) ∙ ap (rowsFrom 1) three-lines

@@ -18,7 +18,8 @@ use Rattle.radio_status.specs.declared.record.Status.{Status}
 use Rattle.radio.specs.Read.{byte, readOf, gave as read}
 use Rattle.radio.specs.declared.Reading.{Reading}
 use Rattle.hexline.specs.Lines.{Found, aFrame}
-use Rattle.hexline.specs.Printed.{Written, gave, rowOf}
+use Rattle.text.specs.Put.{Written, gave}
+use Rattle.hexline.specs.Printed.{rowOf}
 use Rattle.hexline.specs.Text.{lineIn, foundBy}
 use Rattle.hexline.specs.declared.Line.{Line}
 use Rattle.hexline.specs.declared.Line.the-variants.{Unfinished}

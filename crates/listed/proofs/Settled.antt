@@ -2,7 +2,7 @@
 use mathlib.Core.Path.{_≡_, sym, ap, _∙_}
 use mathlib.Core.List.{List}
 use Prim.Native.Nat.{ℕ}
-use Rattle.hexline.specs.Printed.{gave}
+use Rattle.text.specs.Put.{gave}
 use Rattle.hexline.specs.declared.Taken.{Taken}
 use Rattle.listed.specs.Rows.{rowAt}
 

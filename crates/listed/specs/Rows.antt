@@ -12,7 +12,8 @@ use Rattle.radio_status.specs.Words.{address}
 use Rattle.radio.specs.Read.{byte, readOf}
 use Rattle.radio.specs.declared.Reading.{Reading}
 use Rattle.hexline.specs.Lines.{Content, aFrame, noFrame, Found, lines, numbered}
-use Rattle.hexline.specs.Printed.{Written, gave, written, textOf}
+use Rattle.text.specs.Put.{Written, gave, written}
+use Rattle.hexline.specs.Printed.{textOf}
 use Rattle.hexline.specs.Text.{foundBy}
 use Rattle.hexline.specs.declared.Taken.{Taken}
 

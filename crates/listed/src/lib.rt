@@ -10,7 +10,7 @@ use radio_status::record::Status;
 use wire::Answer;
 ghost use mathlib.Core.Path.{_≡_};
 ghost use Rattle.hexline.specs.Lines.{aFrame};
-ghost use Rattle.hexline.specs.Printed.{gave};
+ghost use Rattle.text.specs.Put.{gave};
 ghost use Rattle.hexline.specs.Text.{foundBy};
 ghost use Rattle.listed.specs.Rows.{rowText, rowsOf, printed, rowAt};
 

@@ -5,7 +5,7 @@ use mathlib.Core.List.{List, _++_, flatten}
 use Prim.Native.Nat.{ℕ, _^_, _<_, _≤_}
 use lib.ListN.{length}
 use Rattle.hexline.specs.Lines.{lines}
-use Rattle.hexline.specs.Printed.{gave}
+use Rattle.text.specs.Put.{gave}
 use Rattle.hexline.specs.Text.{foundIn}
 use Rattle.listed.specs.Rows.{listingOf}
 use Rattle.listed.proofs.WholeText.{whole-text}

@@ -9,7 +9,7 @@ use lib.ListN.{length, take, drop, take-append-drop, length-append, length-drop}
 use lib.Seq.{length-take-le, take-at}
 use Rattle.wire.proofs.Cases.{by-order}
 use Rattle.hexline.specs.Lines.{Found, aFrame, noFrame}
-use Rattle.hexline.specs.Printed.{Written, gave}
+use Rattle.text.specs.Put.{Written, gave}
 use Rattle.hexline.specs.Text.{lineIn, foundBy}
 use Rattle.hexline.specs.declared.Line.{Line}
 use Rattle.hexline.specs.declared.Line.the-variants.{Unfinished, Frame, Length}

@@ -5,7 +5,7 @@ use mathlib.Core.List.{List, [], _∷_, _++_}
 use lib.Dec.{ltb}
 use lib.ListN.{length, take}
 use Rattle.hexline.specs.Lines.{Found}
-use Rattle.hexline.specs.Printed.{Written, gave}
+use Rattle.text.specs.Put.{Written, gave}
 use Rattle.listed.specs.Rows.{rowText, printedAt}
 
 -- there is room for another row

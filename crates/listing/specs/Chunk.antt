@@ -2,7 +2,7 @@
 use mathlib.Core.Path.{_≡_}
 use mathlib.Core.List.{List}
 use Prim.Native.Nat.{ℕ}
-use Rattle.hexline.specs.Printed.{Written, gave}
+use Rattle.text.specs.Put.{Written, gave}
 use Rattle.hexline.specs.Text.{Run}
 use Rattle.listing.specs.Buffer.{bufferAfter}
 use Rattle.listing.specs.declared.Listing.{Listing}

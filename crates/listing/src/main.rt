@@ -14,7 +14,7 @@ ghost use mathlib.Core.Path.{_≡_};
 ghost use mathlib.Core.Bool.{true};
 ghost use Prim.Native.Nat.{_≤_};
 ghost use lib.ListN.{length};
-ghost use Rattle.hexline.specs.Printed.{gave};
+ghost use Rattle.text.specs.Put.{gave};
 ghost use Rattle.hexline.specs.Reader.{endOf};
 ghost use Rattle.hexline.specs.Text.{chunkOf, foundBy};
 ghost use Rattle.listing.specs.Buffer.{Room, bufferAfter};

@@ -86,8 +86,8 @@ pub(crate) fn digit(n: u8) -> u8
     requires { ⌜ n < 16 ⌝ }
     ensures { λ r. ⌜ r ≡ digitOf n ⌝ }
 {
-    if n < 10 {
-        return b'0' + n;
+    if 10 <= n {
+        return b'A' + (n - 10);
     }
-    b'A' + (n - 10)
+    b'0' + n
 }

@@ -3,8 +3,8 @@ use mathlib.Core.Path.{_≡_, refl}
 use Prim.Native.Nat.{_-_, _*_, _≤_}
 use native.Mathlib.Omega.{arith}
 use lib.ListN.{length, take, length-set}
-use Rattle.hexline.specs.Put.{Put}
-use Rattle.hexline.proofs.Puts.{put-none}
+use Rattle.text.specs.Put.{Put}
+use Rattle.text.proofs.Puts.{put-none}
 use Rattle.framed.specs.Hexadecimal.{digitsOf}
 use Rattle.framed.proofs.Laying.{byte-more, line-ends}
 use Rattle.framed.proofs.line.Statement.{statement}

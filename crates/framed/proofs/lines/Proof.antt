@@ -3,8 +3,8 @@ use mathlib.Core.Path.{_≡_, refl}
 use Prim.Native.Nat.{_-_, _*_, _≤_}
 use native.Mathlib.Omega.{arith}
 use lib.ListN.{length}
-use Rattle.hexline.specs.Put.{Put}
-use Rattle.hexline.proofs.Puts.{put-length}
+use Rattle.text.specs.Put.{Put}
+use Rattle.text.proofs.Puts.{put-length}
 use Rattle.framed.specs.Hexadecimal.{linesOf}
 use Rattle.framed.proofs.Laying.{part-length, no-lines, line-more, too-many, too-few, no-room, lines-end}
 use Rattle.framed.proofs.lines.Statement.{statement}

@@ -5,7 +5,7 @@ use native.Mathlib.Omega.{arith}
 use denote.Ref.{now}
 use borrow.Author.Needs.{needs}
 use lib.ListN.{length}
-use Rattle.hexline.specs.Printed.{gave}
+use Rattle.text.specs.Put.{gave}
 use Rattle.hexline.specs.Text.{foundBy}
 use Rattle.listed.proofs.Printing.{row-inside}
 use Rattle.listing.specs.Buffer.{settled, bufferAfter}

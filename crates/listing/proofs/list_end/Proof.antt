@@ -2,7 +2,7 @@
 use mathlib.Core.Path.{_≡_, ap, _∙_}
 use denote.Ref.{now}
 use borrow.Author.Needs.{needs}
-use Rattle.hexline.specs.Printed.{gave}
+use Rattle.text.specs.Put.{gave}
 use Rattle.hexline.specs.Reader.{endOf}
 use Rattle.hexline.specs.Text.{foundBy}
 use Rattle.hexline.specs.declared.Taken.{Taken}
