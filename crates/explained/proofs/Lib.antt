@@ -2,3 +2,7 @@
 pub mod Cells
 pub mod Lengths
 pub mod Calls
+pub mod Inside
+pub mod Told
+pub mod Settled
+pub mod Example

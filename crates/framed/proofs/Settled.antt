@@ -1,13 +1,11 @@
 -- Any two outcomes that the contract of a call admits coincide: the number of bytes, and the lent slice at exit. Assumes nothing.
-use mathlib.Core.Path.{_≡_, ap}
+use mathlib.Core.Path.{_≡_}
 use mathlib.Core.List.{List}
 use Prim.Native.Nat.{ℕ}
-use Rattle.wire.proofs.Settled.{settled}
-use Rattle.text.specs.Put.{Written, gave}
+use Rattle.text.specs.Put.{gave}
+use Rattle.text.proofs.Settled.{written-settled}
 use Rattle.framed.specs.Texts.{linesWritten}
 
 pub lines-settled : (frames : List ℕ) (count : ℕ) (out : List ℕ) (r s : ℕ) (one other : List ℕ)
     → gave r one ≡ linesWritten frames count out → gave s other ≡ linesWritten frames count out → (r ≡ s) × (one ≡ other)
-lines-settled frames count out r s one other p q =
-    let same : gave r one ≡ gave s other = settled p q in
-    (ap (λ (w : Written). w .count) same, ap (λ (w : Written). w .out) same)
+lines-settled frames count out = written-settled (linesWritten frames count out)

@@ -1,13 +1,13 @@
 -- The closing line: how long it is, and that it is written whole. Assumes nothing.
-use mathlib.Core.Path.{_≡_, ap, _∙_}
+use mathlib.Core.Path.{_≡_, _∙_}
 use mathlib.Core.List.{List}
 use Prim.Native.Nat.{ℕ, _<_, _≤_, _^_}
 use native.Mathlib.Omega.{arith}
 use borrow.Author.Tests.{lt-ltb, le-ltb}
+use lib.Dec.{ltb}
 use lib.ListN.{length, length-append}
-use Rattle.wire.proofs.Cases.{by-order}
-use Rattle.text.specs.Put.{Written, gave, putOf}
-use Rattle.text.proofs.Puts.{put-start, written-inside}
+use Rattle.text.specs.Put.{gave, putOf}
+use Rattle.text.proofs.Puts.{put-start, cond-inside}
 use Rattle.hexline.proofs.Columns.{number-length}
 use Rattle.hexline.specs.Tally.{tallyText, tallyOf}
 
@@ -30,7 +30,4 @@ module _ (frames skipped held : ℕ) where
 
     pub tally-inside : (r : ℕ) (after : List ℕ) → gave r after ≡ tallyOf frames skipped held out → r ≤ length after
     unfolding tallyOf
-    tally-inside r after e =
-        by-order (length out) 128
-        (λ short. let nothing : r ≡ 0 = ap (λ (w : Written). w .count) (rw (lt-ltb (length out) 128 short) at e) in omega arith)
-        (λ room. written-inside (tallyText frames skipped held) out r after (rw (le-ltb (length out) 128 room) at e))
+    tally-inside r after e = cond-inside (ltb (length out) 128) (tallyText frames skipped held) out r after e

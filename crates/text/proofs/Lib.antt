@@ -4,3 +4,4 @@ pub mod Numbers
 pub mod Places
 pub mod ReadBack
 pub mod Settled
+pub mod Example

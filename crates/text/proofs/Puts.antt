@@ -1,5 +1,6 @@
 -- Texts put into a slice one after another. Assumes nothing.
 use mathlib.Core.Path.{_≡_, refl, sym, ap, _∙_}
+use mathlib.Core.Bool.{Bool, true, false, cond}
 use mathlib.Core.List.{List, [], _∷_, _++_}
 use Prim.Native.Nat.{ℕ, suc, _+_, _<_, _≤_}
 use native.Mathlib.Nat.{zero-add, add-zero}
@@ -42,6 +43,11 @@ written-inside text out r after e =
     let count-is : r ≡ length text = ap (λ (w : Written). w .count) e in
     let out-is : after ≡ text ++ drop (length text) out = ap (λ (w : Written). w .out) e in
     omega (arith, ap length out-is, length-append text (drop (length text) out))
+
+-- nor is more than is there where a call may write nothing
+pub cond-inside : (none : Bool) (text out : List ℕ) (r : ℕ) (after : List ℕ) → gave r after ≡ cond none (gave 0 out) (written text out) → r ≤ length after
+cond-inside true text out r after e = let nothing : r ≡ 0 = ap (λ (w : Written). w .count) e in omega arith
+cond-inside false text out r after e = written-inside text out r after e
 
 -- ---- as much as there is room for
 
