@@ -1,3 +1,4 @@
--- The input as it is gathered, and the program's texts inside its buffers.
+-- The input as it is gathered; what is said, and the theorem that it is true and whole.
 pub mod Appending
-pub mod Inside
+pub mod Said
+pub mod AllTold

@@ -2,7 +2,7 @@
 use mathlib.Core.Path.{sym, _∙_}
 use borrow.Author.Needs.{needs}
 use denote.Ref.{now}
-use Rattle.explaining.proofs.Inside.{reason-said, none-said}
+use Rattle.explaining.proofs.Said.{reason-said, none-said}
 use Rattle.explaining.proofs.place_text.Statement.{statement}
 use Rattle.explaining.proofs.place_text.Tie as tie
 

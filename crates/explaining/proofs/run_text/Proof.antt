@@ -1,7 +1,7 @@
 -- `run_text` meets its contract: the line of the run that begins there. Assumes nothing.
 use borrow.Author.Needs.{needs}
 use denote.Ref.{now}
-use Rattle.explaining.proofs.Inside.{line-said}
+use Rattle.explaining.proofs.Said.{line-said}
 use Rattle.explaining.proofs.run_text.Statement.{statement}
 use Rattle.explaining.proofs.run_text.Tie as tie
 

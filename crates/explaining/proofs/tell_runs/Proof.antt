@@ -8,7 +8,7 @@ use lib.ListN.{length}
 use lib.Seq.{length-take-le}
 use Rattle.why.specs.Runs.{TrueRun, runOf}
 use Rattle.why.proofs.AllRuns.{Here, here-first, true-here}
-use Rattle.explaining.proofs.Inside.{run-ends}
+use Rattle.explaining.proofs.Said.{run-ends}
 use Rattle.explaining.proofs.tell_runs.Statement.{statement}
 use Rattle.explaining.proofs.tell_runs.Tie as tie
 
