@@ -72,20 +72,22 @@ build() { # RT-COMMAND CRATE
 
 # Runs a program of the library. It is for x86-64; for other machines the toolchain has an emulator, with the loader and
 # the C library that the program needs.
-run_program() {
+run_program() { # NAME ARGUMENT...
+    program=$home/target/bin/$1
+    shift
     if [ "$(uname -m)" = x86_64 ]; then
-        "$home/target/bin/$1"
+        "$program" "$@"
     else
         tools=$(machine_tools)
-        "$tools/bin/qemu-x86_64" "$tools/lib/ld-linux-x86-64.so.2" --library-path "$tools/lib" "$home/target/bin/$1"
+        "$tools/bin/qemu-x86_64" "$tools/lib/ld-linux-x86-64.so.2" --library-path "$tools/lib" "$program" "$@"
     fi
 }
 
 # Runs a program with what it says on standard error kept in `said`. A program of Rattle has no status of its own to
 # give: by what it says the caller tells whether it did its work.
-hear_program() {
+hear_program() { # NAME ARGUMENT...
     exec 3>&1
     status=0
-    said=$(run_program "$1" 2>&1 >&3 3>&-) || status=$?
+    said=$(run_program "$@" 2>&1 >&3 3>&-) || status=$?
     [ -z "$said" ] || printf '%s\n' "$said" >&2
 }
