@@ -1,7 +1,7 @@
 -- What the plain reader returns through the door tells its answer, the frames, the bytes skipped and the bytes left. Assumes nothing.
 use mathlib.Core.Path.{_≡_, refl, subst⁻¹}
 use mathlib.Core.List.{List}
-use Prim.Native.Nat.{ℕ, _+_, _*_, _/_, _^_}
+use Prim.Native.Nat.{ℕ, _+_, _*_, _^_}
 use native.Mathlib.Omega.{arith}
 use Rattle.wire.specs.Answers.{told, placeOf}
 use Rattle.cells.proofs.Parts.{lower-half, upper-half}

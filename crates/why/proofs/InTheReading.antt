@@ -1,11 +1,11 @@
 -- What a true reason says of the reading: what it gave before the place, what it does there, and how it goes on. Assumes nothing.
 use mathlib.Core.Path.{_≡_, sym, ap, _∙_}
-use mathlib.Core.List.{List, _++_}
-use Prim.Native.Nat.{ℕ, _+_, _-_, _<_}
+use mathlib.Core.List.{List}
+use Prim.Native.Nat.{ℕ, _+_, _-_}
 use native.Mathlib.Omega.{arith}
-use lib.ListN.{length, take, drop, length-drop}
+use lib.ListN.{take, drop, length-drop}
 use lib.Seq.{drop-drop}
-use Rattle.reading.specs.Reading.{Reading, frame, skip, _andThen_, reading}
+use Rattle.reading.specs.Reading.{frame, skip, _andThen_, reading}
 use Rattle.reading.specs.UpTo.{upTo}
 use Rattle.reading.proofs.Readings.{good-here, reading-good, reading-none, counted, placeAfter, left-is}
 use Rattle.reading.proofs.UpTo.{comes-then}

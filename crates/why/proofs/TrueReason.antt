@@ -1,20 +1,20 @@
 -- T-05: the reason that a call gives is true of the place. Assumes nothing.
-use mathlib.Core.Path.{_≡_, ap, subst, subst⁻¹, _∙_}
+use mathlib.Core.Path.{_≡_, subst, subst⁻¹}
 use mathlib.Core.Logic.{⊎-elim}
-use mathlib.Core.Bool.{true, false}
-use mathlib.Core.List.{List, _++_, append-assoc}
-use Prim.Native.Nat.{ℕ, _+_, _<_, _≤_}
+use mathlib.Core.Bool.{false}
+use mathlib.Core.List.{List}
+use Prim.Native.Nat.{ℕ, _+_, _<_}
 use native.Mathlib.Omega.{arith}
-use lib.ListN.{length, take, drop}
+use lib.ListN.{length}
 use Rattle.wire.proofs.Cases.{by-test, by-order}
 use Rattle.wire.proofs.Named.{named-at}
 use Rattle.wire.specs.Sync.{syncAt}
 use Rattle.wire.specs.declared.Answer.the-variants.{Accepted}
-use Rattle.reading.specs.Reading.{good, reading}
-use Rattle.reading.specs.UpTo.{upTo, Comes}
+use Rattle.reading.specs.Reading.{good}
+use Rattle.reading.specs.UpTo.{Comes}
 use Rattle.reading.proofs.Readings.{counted}
 use Rattle.reading.proofs.UpTo.{every-place, ends-here}
-use Rattle.why.specs.Reasons.{InFrame, Skips, IsTrue}
+use Rattle.why.specs.Reasons.{Skips, IsTrue}
 use Rattle.why.specs.Why.{wrongByte, reasonOf, whyOf}
 use Rattle.why.specs.declared.Reason.{Reason}
 use Rattle.why.specs.declared.Reason.the-variants.{Inside, Near, Far, Held}

@@ -5,7 +5,7 @@ use mathlib.Core.Logic.{inl, inr}
 use mathlib.Core.List.{List}
 use Prim.Native.Nat.{ℕ, zero, suc, _+_, _<_, _≤_}
 use native.Mathlib.Omega.{arith}
-use borrow.Author.Tests.{lt-ltb, le-ltb, le-leb, leb-true}
+use borrow.Author.Tests.{le-ltb, le-leb, leb-true}
 use lib.Dec.{leb}
 use lib.ListN.{length}
 use Rattle.wire.proofs.Cases.{by-test, by-order, both-true, either}
@@ -18,8 +18,7 @@ use Rattle.why.specs.Reasons.{InFrame, Skips, IsHeld, IsTrue}
 use Rattle.why.specs.Runs.{does, stepBy, runEnd, heldUpTo, goingOf, runOf, Like, TrueRun}
 use Rattle.why.specs.Why.{skippedFor, reasonOf}
 use Rattle.why.specs.declared.Reason.{Reason}
-use Rattle.why.specs.declared.Reason.the-variants.{Inside, Held}
-use Rattle.why.specs.declared.runs.Run.{Run}
+use Rattle.why.specs.declared.Reason.the-variants.{Inside}
 use Rattle.why.proofs.Reasons.{coming}
 use Rattle.why.proofs.RunSteps.{some-step, does-nothing, run-on, run-stops, run-held, run-going}
 use Rattle.why.proofs.TrueReason.{reason-of-is-true}

@@ -1,5 +1,5 @@
 -- `skipped` meets its contract: the far sync's byte where the near sync is right, and the near one's otherwise. Assumes nothing.
-use mathlib.Core.Path.{_≡_, sym, ap, _∙_}
+use mathlib.Core.Path.{sym, ap, _∙_}
 use borrow.Author.Needs.{needs}
 use Rattle.why.specs.declared.Reason.the-variants.{Near, Far}
 use Rattle.why.proofs.place.skipped.Statement.{statement}
