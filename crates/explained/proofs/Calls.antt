@@ -1,8 +1,8 @@
--- The calls' cases: an out that is too short, what the input does not have, and the text at the start of out. Assumes nothing.
+-- The call's cases: an out that is too short, a place that the input does not have, and the text at the start of out. Assumes nothing.
 use mathlib.Core.Path.{_≡_, _∙_}
 use mathlib.Core.Bool.{true, false, _||_}
 use mathlib.Core.List.{List}
-use Prim.Native.Nat.{ℕ, _^_, _<_, _≤_}
+use Prim.Native.Nat.{ℕ, _<_, _≤_}
 use native.Mathlib.Omega.{arith}
 use borrow.Author.Tests.{ltb-false, leb-false, lt-ltb, le-ltb}
 use lib.Dec.{leb, ltb}
@@ -12,17 +12,13 @@ use Rattle.text.specs.Put.{gave, putOf}
 use Rattle.text.proofs.Puts.{put-start}
 use Rattle.why.specs.declared.Reason.{Reason}
 use Rattle.why.specs.declared.Reason.the-variants.{Inside}
-use Rattle.why.specs.declared.runs.Run.{Run}
-use Rattle.explained.specs.Run.{noRun, runText, runOf, pastEndText, pastEndOf}
-use Rattle.explained.specs.Sentence.{noReason}
+use Rattle.sentences.specs.Sentence.{noReason}
 use Rattle.explained.specs.Shown.{noPlace, shownText, shownOf}
-use Rattle.explained.proofs.Lengths.{shown-length, run-length, past-end-length}
+use Rattle.explained.proofs.Lengths.{shown-length}
 
 -- a frame that a place can be in begins at it or before it
 pub begins-before : (place : ℕ) (reason : Reason) (q : ℕ) → reason ≡ Inside q → noReason place reason ≡ false → q ≤ place
 begins-before place reason q is can = ltb-false place q (rw is at can)
-
--- ---- a place
 
 module _ (input : List ℕ) (place : ℕ) (reason : Reason) where
   -- the place is the input's, and can have the reason
@@ -48,47 +44,3 @@ module _ (input : List ℕ) (place : ℕ) (reason : Reason) where
       shown-whole has put =
           let fits = shown-length input place reason (has-place has .0) (has-place has .1) in
           rw (le-ltb (length out) 512 room, has) (put ∙ put-start out (shownText input place reason) (omega arith))
-
--- ---- a run
-
-module _ (input : List ℕ) (start : ℕ) (run : Run) where
-  -- the run is the input's, and its first place can have the reason
-  pub has-run : noRun input start (run .end) (run .reason) ≡ false → (start ≤ 65536) × (run .end ≤ 65536) × (noReason start (run .reason) ≡ false)
-  has-run has =
-      let parts = neither (ltb 65536 (length input) || ltb (length input) (run .end) || leb (run .end) start) (noReason start (run .reason)) has in
-      let some = neither (ltb 65536 (length input) || ltb (length input) (run .end)) (leb (run .end) start) (parts .0) in
-      let within = neither (ltb 65536 (length input)) (ltb (length input) (run .end)) (some .0) in
-      let long = ltb-false 65536 (length input) (within .0) in
-      let inside = ltb-false (length input) (run .end) (within .1) in
-      (omega (arith, leb-false (run .end) start (some .1)), omega arith, parts .1)
-
-  module _ (out : List ℕ) where
-    pub run-short : length out < 128 → gave 0 out ≡ runOf input start run out
-    unfolding runOf
-    run-short less = rw (lt-ltb (length out) 128 less)
-
-    module _ (room : 128 ≤ length out) where
-      pub run-none : noRun input start (run .end) (run .reason) ≡ true → gave 0 out ≡ runOf input start run out
-      unfolding runOf
-      run-none none = rw (le-ltb (length out) 128 room, none)
-
-      pub run-whole : {r : ℕ} {after : List ℕ} → noRun input start (run .end) (run .reason) ≡ false
-          → gave r after ≡ putOf out 0 (runText input start (run .end) (run .reason)) → gave r after ≡ runOf input start run out
-      unfolding runOf
-      run-whole has put =
-          let known = has-run has in
-          let fits = run-length start (run .end) (known .0) (known .1) input (run .reason) (known .2) in
-          rw (le-ltb (length out) 128 room, has) (put ∙ put-start out (runText input start (run .end) (run .reason)) (omega arith))
-
--- ---- the line about an input's length
-
-module _ (n : ℕ) (out : List ℕ) where
-  pub past-short : length out < 128 → gave 0 out ≡ pastEndOf n out
-  unfolding pastEndOf
-  past-short less = rw (lt-ltb (length out) 128 less)
-
-  pub past-whole : {r : ℕ} {after : List ℕ} → n < 2 ^ 64 → 128 ≤ length out → gave r after ≡ putOf out 0 (pastEndText n) → gave r after ≡ pastEndOf n out
-  unfolding pastEndOf
-  past-whole fits room put =
-      let inside = past-end-length n fits in
-      rw (le-ltb (length out) 128 room) (put ∙ put-start out (pastEndText n) (omega arith))

@@ -1,4 +1,4 @@
--- What the calls answer is inside the slice that was lent. Assumes nothing.
+-- What the call answers is inside the slice that was lent. Assumes nothing.
 use mathlib.Core.Path.{_≡_}
 use mathlib.Core.Bool.{_||_}
 use mathlib.Core.List.{List}
@@ -8,19 +8,8 @@ use lib.ListN.{length}
 use Rattle.text.specs.Put.{gave}
 use Rattle.text.proofs.Puts.{cond-inside}
 use Rattle.why.specs.declared.Reason.{Reason}
-use Rattle.why.specs.declared.runs.Run.{Run}
-use Rattle.explained.specs.Run.{noRun, runText, runOf, pastEndText, pastEndOf}
 use Rattle.explained.specs.Shown.{noPlace, shownText, shownOf}
 
 pub shown-inside : (input : List ℕ) (place : ℕ) (reason : Reason) (out : List ℕ) (r : ℕ) (after : List ℕ) → gave r after ≡ shownOf input place reason out → r ≤ length after
 unfolding shownOf
 shown-inside input place reason out = cond-inside (ltb (length out) 512 || noPlace input place reason) (shownText input place reason) out
-
-pub run-inside : (input : List ℕ) (start : ℕ) (run : Run) (out : List ℕ) (r : ℕ) (after : List ℕ) → gave r after ≡ runOf input start run out → r ≤ length after
-unfolding runOf
-run-inside input start run out =
-    cond-inside (ltb (length out) 128 || noRun input start (run .end) (run .reason)) (runText input start (run .end) (run .reason)) out
-
-pub past-inside : (n : ℕ) (out : List ℕ) (r : ℕ) (after : List ℕ) → gave r after ≡ pastEndOf n out → r ≤ length after
-unfolding pastEndOf
-past-inside n out = cond-inside (ltb (length out) 128) (pastEndText n) out

@@ -1,4 +1,4 @@
--- Laws of how long the texts are, of the loop over a window's bytes, and of the calls' cases; and the theorems.
+-- Laws of the loop over a window's bytes, of how long the texts are, and of the call's cases; and the theorems.
 pub mod Cells
 pub mod Lengths
 pub mod Calls

@@ -6,7 +6,7 @@ use lib.Dec.{leb, ltb}
 use lib.ListN.{length}
 use Rattle.text.specs.Put.{Written, gave, written}
 use Rattle.why.specs.declared.Reason.{Reason}
-use Rattle.explained.specs.Sentence.{noReason, sentenceOf}
+use Rattle.sentences.specs.Sentence.{noReason, sentenceOf}
 use Rattle.explained.specs.Window.{windowsOf}
 
 -- too long an input, a place outside it, or a reason that it cannot have

@@ -8,9 +8,8 @@ use Rattle.wire.specs.Lists.{tabs}
 use Rattle.text.specs.Numbers.{hexOf}
 use Rattle.why.specs.declared.Reason.{Reason}
 use Rattle.why.specs.declared.Reason.the-variants.{NotGiven, Inside, Near, Far, Held}
+use Rattle.sentences.specs.Parts.{labelledOf}
 use Rattle.explained.specs.declared.window.Tested.{Tested}
-use Rattle.explained.specs.Parts.{labelledOf}
-use Rattle.explained.specs.Words.{fromByte}
 
 abbrev pub testing : ℕ → ℕ → ℕ → Tested
 testing from near far = record { from = from; near = near; far = far }
@@ -39,6 +38,10 @@ cellOf marked value = cond marked (aroundOf 0x5b value 0x5d) (aroundOf 0x20 valu
 
 unfoldable pub cellsOf : List ℕ → Tested → ℕ → ℕ → List ℕ
 cellsOf input t from n = tabs n (λ i. cellOf (markedOf t (from + i)) (getD input (from + i) 0))
+
+-- "from byte "
+abbrev pub fromByte : List ℕ
+fromByte = 0x66 ∷ 0x72 ∷ 0x6f ∷ 0x6d ∷ 0x20 ∷ 0x62 ∷ 0x79 ∷ 0x74 ∷ 0x65 ∷ 0x20 ∷ []
 
 -- "from byte 2,094:", and the bytes
 unfoldable pub rowOf : List ℕ → Tested → ℕ → ℕ → List ℕ

@@ -1,28 +1,20 @@
-// What is said about an input in words: why a byte of it was thrown out, with the bytes around it, and
-// what became of its bytes, a line for each run of them.
+// What is shown for a place of an input: why its byte was thrown out, in a sentence, and the bytes around
+// it.
 //
-// Each call writes at the start of out and answers how many bytes it wrote. Where out is too short for
-// any such text, and for a place or a run that the input does not have, out stays as it is and the
-// answer is 0.
-pub(crate) mod parts;
-pub(crate) mod runs;
-pub(crate) mod sentence;
+// The call writes at the start of out and answers how many bytes it wrote. Where out is too short for any
+// such text, and for a place that the input does not have, out stays as it is and the answer is 0.
 pub(crate) mod window;
 
+use sentences::no_reason;
+use sentences::sentence::sentence;
 use why::MOST;
 use why::Reason;
-use why::Run;
 ghost use mathlib.Core.Path.{_≡_};
 ghost use Rattle.text.specs.Put.{gave};
 ghost use Rattle.explained.specs.Shown.{shownOf, noPlace};
-ghost use Rattle.explained.specs.Sentence.{noReason};
-ghost use Rattle.explained.specs.Run.{runOf, noRun, pastEndOf};
 
 // Room for all that is shown for a place.
 pub const SHOWN: usize = 512;
-
-// Room for any line about a run, and for the line about a place past the end.
-pub const LINE: usize = 128;
 
 // The reason of a place in a sentence, and the bytes around the place and wherever else the test at it
 // looked.
@@ -35,38 +27,8 @@ pub fn shown(input: &[u8], place: usize, reason: Reason, out: &mut [u8]) -> usiz
     if no_place(input, place, reason) {
         return 0;
     }
-    let said = sentence::sentence(input, place, reason, out, 0);
+    let said = sentence(input, place, reason, out, 0);
     window::windows(input, place, reason, out, said)
-}
-
-// The line about the run of bytes from a place on.
-pub fn run_line(input: &[u8], start: usize, run: Run, out: &mut [u8]) -> usize
-    ensures { λ r. ⌜ gave r (now (out .exit)) ≡ runOf (now (input .entry)) start run (now (out .entry)) ⌝ }
-{
-    let end = run.end;
-    let reason = run.reason;
-    if out.len() < LINE {
-        return 0;
-    }
-    if no_run(input, start, end, reason) {
-        return 0;
-    }
-    runs::run(input, start, end, reason, out)
-}
-
-// The line for a place that an input of this length does not have.
-pub fn past_end(length: usize, out: &mut [u8]) -> usize
-    ensures { λ r. ⌜ gave r (now (out .exit)) ≡ pastEndOf length (now (out .entry)) ⌝ }
-{
-    if out.len() < LINE {
-        return 0;
-    }
-    let next = text::put(
-        out,
-        0,
-        b"why: the place is past the end of the input, which has ",
-    );
-    parts::counted(length, b" byte\n", b" bytes\n", out, next)
 }
 
 pub(crate) fn no_place(input: &[u8], place: usize, reason: Reason) -> bool
@@ -79,33 +41,4 @@ pub(crate) fn no_place(input: &[u8], place: usize, reason: Reason) -> bool
         return true;
     }
     no_reason(place, reason)
-}
-
-pub(crate) fn no_run(input: &[u8], start: usize, end: usize, reason: Reason) -> bool
-    ensures { λ r. ⌜ r ≡ noRun (now (input .entry)) start end reason ⌝ }
-{
-    if MOST < input.len() {
-        return true;
-    }
-    if input.len() < end {
-        return true;
-    }
-    if end <= start {
-        return true;
-    }
-    no_reason(start, reason)
-}
-
-// Whether no place like this one can have the reason: the frame begins after it, or the byte is none
-// of the three of a sync.
-pub(crate) fn no_reason(place: usize, reason: Reason) -> bool
-    ensures { λ r. ⌜ r ≡ noReason place reason ⌝ }
-{
-    match reason {
-        Reason::NotGiven => false,
-        Reason::Inside(q) => place < q,
-        Reason::Near(k) => 2 < k,
-        Reason::Far(k) => 2 < k,
-        Reason::Held => false,
-    }
 }

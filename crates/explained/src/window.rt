@@ -1,13 +1,13 @@
 // The bytes around a place.
-use crate::parts::byte_after;
-use crate::parts::labelled;
-use crate::parts::less;
+use sentences::parts::byte_after;
+use sentences::parts::labelled;
+use sentences::parts::less;
 use why::Reason;
 ghost use mathlib.Core.Path.{_≡_};
 ghost use Prim.Native.Nat.{_+_, _≤_};
 ghost use Rattle.text.specs.Put.{gave, putOf};
 ghost use mathlib.Core.Bool.{false};
-ghost use Rattle.explained.specs.Sentence.{noReason};
+ghost use Rattle.sentences.specs.Sentence.{noReason};
 ghost use Rattle.explained.specs.Window.{testing, testedOf, markedOf, aroundOf, cellOf, cellsOf, rowOf, windowOf, frameWindows, windowsOf};
 
 // The bytes that a test looked at: `near` of them from a place on, and `far` from 512 later on.

@@ -13,9 +13,10 @@ use Rattle.why.specs.declared.Why.{Why}
 use Rattle.why.proofs.AllRuns.{Here, true-here}
 use Rattle.why.proofs.Cases.{explains}
 use Rattle.why.proofs.TrueReason.{reason-of-is-true}
-use Rattle.explained.specs.Run.{runText, runOf as lineOf}
+use Rattle.sentences.specs.Run.{runText, runOf as lineOf}
+use Rattle.sentences.proofs.Told.{run-told}
 use Rattle.explained.specs.Shown.{shownText, shownOf}
-use Rattle.explained.proofs.Told.{place-told, run-told}
+use Rattle.explained.proofs.Told.{place-told}
 use Rattle.explaining.specs.Told.{Saying, placeTold, RunTold, runTold}
 
 module _ (input : List ℕ) (short : length input ≤ 65536) (out : List ℕ) where

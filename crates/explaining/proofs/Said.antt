@@ -11,9 +11,10 @@ use Rattle.why.specs.Runs.{runOf}
 use Rattle.why.specs.Why.{whyOf}
 use Rattle.why.specs.declared.Why.{Why}
 use Rattle.why.specs.declared.runs.Run.{Run}
-use Rattle.explained.specs.Run.{runOf as lineOf, pastEndOf}
+use Rattle.sentences.specs.Run.{runOf as lineOf, pastEndOf}
+use Rattle.sentences.proofs.Inside.{run-inside, past-inside}
 use Rattle.explained.specs.Shown.{shownOf}
-use Rattle.explained.proofs.Inside.{shown-inside, run-inside, past-inside}
+use Rattle.explained.proofs.Inside.{shown-inside}
 use Rattle.explaining.specs.Told.{toldIn, placeTold, RunTold, lineIn, runTold}
 use Rattle.explaining.specs.declared.Line.{Line}
 

@@ -7,7 +7,7 @@ use Rattle.wire.specs.Answers.{accepts}
 use Rattle.text.specs.Put.{Written, gave}
 use Rattle.why.specs.Runs.{runOf}
 use Rattle.why.specs.Why.{whyOf}
-use Rattle.explained.specs.Run.{runOf as lineOf, pastEndOf}
+use Rattle.sentences.specs.Run.{runOf as lineOf, pastEndOf}
 use Rattle.explained.specs.Shown.{shownOf}
 use Rattle.explaining.specs.declared.Line.{Line}
 use Rattle.explaining.specs.declared.Told.{Told}

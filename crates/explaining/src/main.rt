@@ -2,8 +2,8 @@
 // input and, for the place that is the program's argument, prints the reason and the bytes around it.
 // Without an argument it prints what became of all the bytes, a line for each run of them.
 //
-// The reasons stand in `why`, the words in `explained`. What cannot be done is said in one line on
-// standard error.
+// The reasons stand in `why`, the words in `sentences`, the bytes in `explained`. What cannot be done is
+// said in one line on standard error.
 use libc::STDERR_FILENO;
 use libc::STDIN_FILENO;
 use libc::STDOUT_FILENO;
@@ -169,7 +169,7 @@ fn place_text(input: &[u8], place: usize, out: &mut [u8]) -> Told
         };
     }
     Told {
-        count: explained::past_end(input.len(), out),
+        count: sentences::past_end(input.len(), out),
         answer: false,
     }
 }
@@ -202,7 +202,7 @@ fn run_text(input: &[u8], start: usize, out: &mut [u8]) -> Line
     let run = why::run_from(input, start);
     let end = run.end;
     Line {
-        count: explained::run_line(input, start, run, out),
+        count: sentences::run_line(input, start, run, out),
         end,
     }
 }
