@@ -1,5 +1,5 @@
 -- T-05: what the program prints for a place is a true reason, and for all places the lines of runs that are true of them. Assumes nothing.
-use mathlib.Core.Path.{_≡_, ap, _∙_}
+use mathlib.Core.Path.{_≡_}
 use mathlib.Core.Bool.{true}
 use mathlib.Core.List.{List}
 use Prim.Native.Nat.{ℕ, _<_, _≤_}
@@ -8,8 +8,7 @@ use lib.ListN.{length}
 use Rattle.text.specs.Put.{written}
 use Rattle.why.specs.Reasons.{IsTrue}
 use Rattle.why.specs.Runs.{runOf, TrueRun}
-use Rattle.why.specs.Why.{reasonOf, accepted, whyOf}
-use Rattle.why.specs.declared.Why.{Why}
+use Rattle.why.specs.Why.{reasonOf}
 use Rattle.why.proofs.AllRuns.{Here, true-here}
 use Rattle.why.proofs.Cases.{explains}
 use Rattle.why.proofs.TrueReason.{reason-of-is-true}
@@ -17,7 +16,7 @@ use Rattle.sentences.specs.Run.{runText, runOf as lineOf}
 use Rattle.sentences.proofs.Told.{run-told}
 use Rattle.explained.specs.Shown.{shownText, shownOf}
 use Rattle.explained.proofs.Told.{place-told}
-use Rattle.explaining.specs.Told.{Saying, placeTold, RunTold, runTold}
+use Rattle.explaining.specs.Told.{placeTold, runTold}
 
 module _ (input : List ℕ) (short : length input ≤ 65536) (out : List ℕ) where
   -- a place of the input: the sentence and the windows for its true reason, whole

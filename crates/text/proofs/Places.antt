@@ -1,16 +1,14 @@
 -- The number that a text stands for, digit by digit, and the loop that reads it. Assumes nothing.
 use mathlib.Core.Path.{_≡_, refl, sym, ap, _∙_}
-use mathlib.Core.Bool.{true, and-false}
-use mathlib.Core.List.{List, [], _∷_, _++_}
-use Prim.Native.Nat.{ℕ, suc, _+_, _-_, _*_, _<_, _≤_}
+use mathlib.Core.List.{List, [], _∷_}
+use Prim.Native.Nat.{ℕ, _+_, _-_, _*_, _<_, _≤_}
 use native.Mathlib.Numerals.{add-one}
 use native.Mathlib.Omega.{arith}
 use borrow.Author.Tests.{lt-ltb, le-ltb, le-leb, lt-leb}
-use lib.Dec.{leb}
 use lib.ListN.{length, getD, drop}
 use lib.Seq.{drop-cons, drop-length}
 use Rattle.wire.proofs.Cases.{by-order}
-use Rattle.text.specs.Place.{cappedOf, decimalDigits, digitsAfter, placeFrom, placeOf}
+use Rattle.text.specs.Place.{cappedOf, digitsAfter, placeFrom, placeOf}
 use Rattle.text.specs.declared.place.Place.the-variants.{NoNumber, At}
 
 abbrev most : ℕ

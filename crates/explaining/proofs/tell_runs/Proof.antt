@@ -1,6 +1,6 @@
 -- `tell_runs` is safe and ends: each run goes on where the one before it ended. Assumes nothing.
-use mathlib.Core.Path.{_≡_, refl, sym, subst⁻¹, _∙_}
-use Prim.Native.Nat.{_-_, _<_, _≤_}
+use mathlib.Core.Path.{_≡_, refl, sym, subst⁻¹}
+use Prim.Native.Nat.{_-_}
 use native.Mathlib.Omega.{arith}
 use borrow.Author.Needs.{needs}
 use denote.Ref.{now}
