@@ -12,7 +12,7 @@ use Rattle.text.specs.Numbers.{commas}
 use Rattle.text.proofs.Numbers.{commas-length, hex-length}
 use Rattle.why.specs.declared.Reason.{Reason}
 use Rattle.why.specs.declared.Reason.the-variants.{NotGiven, Inside, Near, Far, Held}
-use Rattle.sentences.specs.Parts.{labelledOf, wrongOf, countedOf, subjectOf}
+use Rattle.sentences.specs.Parts.{countedOf, subjectOf}
 use Rattle.sentences.specs.Run.{runHanded, runSkipped, runHeld, runText, pastEndText}
 use Rattle.sentences.specs.Sentence.{noReason, insideText, skippedText, heldText, sentenceOf}
 use Rattle.sentences.specs.Words.{wasHandedOut, wereHandedOut, wasSkipped, wereSkipped, syncThere, syncLater, isHeld, areHeld, oneFrame, manyFrames, oneByte, manyBytes}
@@ -23,12 +23,6 @@ short n h = commas-length 1 n (omega arith)
 
 pub cond-length : (b : Bool) (x y : List ℕ) (k : ℕ) → length x ≤ k → length y ≤ k → length (cond b x y) ≤ k
 cond-length b x y k one other = either b (λ l. length l ≤ k) one other
-
-labelled-length : (label : List ℕ) (n : ℕ) → n < 1000000 → length (labelledOf label n) ≤ length label + 7
-labelled-length label n h = omega (arith, length-append label (commas n), short n h)
-
-wrong-length : (value : ℕ) → length (wrongOf value) ≡ 18
-wrong-length value = simp (length-append, hex-length)
 
 -- ---- sentences
 
