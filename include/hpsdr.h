@@ -591,8 +591,10 @@ struct hpsdr_why {
  * first. `examples/why.c` asks of a recording.
  *
  * What it does not say. It does not say that a frame handed out is a true one: see above `hpsdr_stream_feed`. And it
- * knows the input alone. Where that is a part of a longer recording, the reading of the whole may come to other places,
- * and what is held here is held only because the input ends. */
+ * knows the input alone. Where that is a part of a longer recording, let it begin at the first byte of the whole, or
+ * where a frame of the whole was handed out: then its reading is that of the whole from there on, as far as the part
+ * goes. With any other beginning the reading of the whole may come to other places. What is held at its end is held
+ * only because the input ends. */
 uint64_t hpsdr_why_byte(const uint8_t *input, size_t input_length, size_t place);
 
 static inline struct hpsdr_why hpsdr_why_of(uint64_t returned) {

@@ -49,7 +49,7 @@ done
 # What is to be built is built, and said, before anything is compared; and of the toolchain nothing is said.
 HPSDR_TOOLCHAIN_TOLD=yes
 export HPSDR_TOOLCHAIN_TOLD
-for command in './frames' './list' 'tools/archive.sh'; do
+for command in './frames' './list' './why' 'tools/archive.sh'; do
     $command </dev/null >"$room/built" 2>&1 || fails "$command: $(cat "$room/built")"
 done
 CARGO_HOME=${CARGO_HOME:-$HOME/.cargo} RUSTUP_HOME=${RUSTUP_HOME:-$HOME/.rustup} HOME=$room/home room=$room sh "$room/session"

@@ -92,7 +92,7 @@ refuses 'a place behind one byte' 'why: the place is past the end of the input, 
 { printf "$sync"; zeros 511; } >"$room/in"
 tells '514 bytes that begin with sync' '' 'bytes 0 to 513 are still held'
 zeros 65536 >"$room/in"
-tells '65,536 zeros' '' 'bytes 0 to 65,021 were skipped: byte 0 of the sync at byte 0 is 00 and not 7F' 'bytes 65,022 to 65,535 are still held'
+tells '65,536 zeros' '' 'bytes 0 to 65,021 were skipped, the first because byte 0 of the sync at byte 0 is 00 and not 7F' 'bytes 65,022 to 65,535 are still held'
 zeros16=' 00  00  00  00  00  00 [00] 00  00  00  00  00  00  00  00  00 '
 tells 'a place with 515 bytes' 65021 'byte 65,021 was skipped: byte 0 of the sync there is 00 and not 7F' "from byte 65,015:$zeros16"
 tells 'a place with 514 bytes' 65022 'byte 65,022 is still held: where the reading stopped, fewer than 515 bytes remain' \
@@ -111,15 +111,16 @@ refuses 'a place behind 65,537 bytes' 'why: the input is longer than 65,536 byte
 # ---- recordings whose contents are known: examples/recording.sh says what is in them
 
 cp examples/recording.bin "$room/in"
-tells 'six bytes lost' '' 'bytes 0 to 2,047 were handed out: 4 frames' \
-    'bytes 2,048 to 2,553 were skipped: byte 0 of the sync at byte 2,560 is 20 and not 7F' \
+set -- 'bytes 0 to 2,047 were handed out: 4 frames' \
+    'bytes 2,048 to 2,553 were skipped, the first because byte 0 of the sync at byte 2,560 is 20 and not 7F' \
     'bytes 2,554 to 5,625 were handed out: 6 frames' 'bytes 5,626 to 6,137 are still held'
+tells 'six bytes lost' '' "$@"
 tells 'the frame that lost them' 2048 'byte 2,048 was skipped: byte 0 of the sync 512 bytes later is 20 and not 7F' \
     'from byte 2,042: 44  44  00  00  00  00 [7F][7F][7F] 20  42  42  42  00  11  11 ' \
     'from byte 2,554: 7F  7F  7F  00  3E  21 [20] 17  11  11  11  11  11  11  22  22 '
 examples/recording.sh imitated >"$room/in"
 tells 'a frame that the next one imitates' '' 'bytes 0 to 1,023 were handed out: 2 frames' \
-    'bytes 1,024 to 1,529 were skipped: byte 0 of the sync at byte 1,536 is 20 and not 7F' \
+    'bytes 1,024 to 1,529 were skipped, the first because byte 0 of the sync at byte 1,536 is 20 and not 7F' \
     'bytes 1,530 to 2,041 were handed out: 1 frame' 'bytes 2,042 to 2,044 are still held'
 examples/recording.sh stray >"$room/in"
 tells 'a stray 7F before a frame that ends in 7F' '' 'bytes 0 to 511 were handed out: 1 frame' \
@@ -128,14 +129,14 @@ tells 'a stray 7F before a frame that ends in 7F' '' 'bytes 0 to 511 were handed
 
 # ---- an input in two pieces, of which the first ends inside a frame
 
-cp examples/recording.bin "$room/whole"
 {
-    dd if="$room/whole" bs=700 count=1 2>"$room/dd"
+    dd if=examples/recording.bin bs=700 count=1 2>"$room/dd"
     sleep 1
-    dd if="$room/whole" bs=700 skip=1 2>"$room/dd"
-} | ./why 2047 >"$room/got" 2>"$room/said"
-line=$(head -n 1 "$room/got")
-[ "$line" = 'byte 2,047 was handed out: it is byte 511 of the frame that begins at byte 1,536' ] || fails 'an input in two pieces' "$line"
+    dd if=examples/recording.bin bs=700 skip=1 2>"$room/dd"
+} | ./why >"$room/got" 2>"$room/said" || fails 'an input in two pieces' "./why ended with status $?: $(cat "$room/said")"
+printf '%s\n' "$@" >"$room/lines"
+cmp -s "$room/got" "$room/lines" || fails 'an input in two pieces' "$(diff "$room/got" "$room/lines" | head -n 6)"
+[ ! -s "$room/said" ] || fails 'an input in two pieces' "./why said: $(cat "$room/said")"
 tried=$((tried + 1))
 
 # ---- what is no place

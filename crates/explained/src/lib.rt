@@ -2,7 +2,8 @@
 // it.
 //
 // The call writes at the start of out and answers how many bytes it wrote. Where out is too short for any
-// such text, and for a place that the input does not have, out stays as it is and the answer is 0.
+// such text, for a place that the input does not have, and for a reason that it cannot have, out stays
+// as it is and the answer is 0.
 pub(crate) mod window;
 
 use sentences::no_reason;

@@ -1,7 +1,7 @@
 // The bytes around a place.
 use sentences::parts::byte_after;
 use sentences::parts::labelled;
-use sentences::parts::less;
+use sentences::parts::minus;
 use why::Reason;
 ghost use mathlib.Core.Path.{_≡_};
 ghost use Prim.Native.Nat.{_+_, _≤_};
@@ -101,12 +101,12 @@ pub(crate) fn window(
     requires { ⌜ centre ≤ 66048 ⌝ }
     ensures { λ r. ⌜ gave r (now (out .exit)) ≡ putOf (now (out .entry)) at (windowOf (now (input .entry)) looked centre) ⌝ }
 {
-    let from = less(centre, 6);
+    let from = minus(centre, 6);
     let past = centre + 10;
     if input.len() < past {
-        return row(input, looked, from, less(input.len(), from), out, at);
+        return row(input, looked, from, minus(input.len(), from), out, at);
     }
-    row(input, looked, from, less(past, from), out, at)
+    row(input, looked, from, minus(past, from), out, at)
 }
 
 pub(crate) fn row(

@@ -11,7 +11,7 @@ use Rattle.why.specs.Runs.{runOf}
 use Rattle.why.specs.Why.{whyOf}
 use Rattle.why.specs.declared.Why.{Why}
 use Rattle.why.specs.declared.runs.Run.{Run}
-use Rattle.sentences.specs.Run.{runOf as lineOf, pastEndOf}
+use Rattle.sentences.specs.Run.{runLineOf, pastEndOf}
 use Rattle.sentences.proofs.Inside.{run-inside, past-inside}
 use Rattle.explained.specs.Shown.{shownOf}
 use Rattle.explained.proofs.Inside.{shown-inside}
@@ -41,12 +41,12 @@ module _ (input : List ℕ) (place : ℕ) (out : List ℕ) (why : Why) (is : why
 -- ---- a run
 
 module _ (input : List ℕ) (start : ℕ) (out : List ℕ) where
-  pub line-said : (run : Run) → run ≡ runOf input start → {after : List ℕ} {r : ℕ} → gave r after ≡ lineOf input start run out
+  pub line-said : (run : Run) → run ≡ runOf input start → {after : List ℕ} {r : ℕ} → gave r after ≡ runLineOf input start run out
       → (r ≤ length after) × (lineIn (record { count = r; end = run .end }) after ≡ runTold input start out)
   unfolding runTold
   line-said run is {after} {r} said = (
     run-inside input start run out r after said,
-    (λ i. record { text = (said ∙ ap (λ (o : Run). lineOf input start o out) is) i; end = is i .end }),
+    (λ i. record { text = (said ∙ ap (λ (o : Run). runLineOf input start o out) is) i; end = is i .end }),
   )
 
   pub run-ends : (line : Line) (after : List ℕ) → lineIn line after ≡ runTold input start out → line .end ≡ runOf input start .end

@@ -7,7 +7,7 @@ use Rattle.wire.specs.Answers.{accepts}
 use Rattle.text.specs.Put.{Written, gave}
 use Rattle.why.specs.Runs.{runOf}
 use Rattle.why.specs.Why.{whyOf}
-use Rattle.sentences.specs.Run.{runOf as lineOf, pastEndOf}
+use Rattle.sentences.specs.Run.{runLineOf, pastEndOf}
 use Rattle.explained.specs.Shown.{shownOf}
 use Rattle.explaining.specs.declared.Line.{Line}
 use Rattle.explaining.specs.declared.Told.{Told}
@@ -35,4 +35,4 @@ abbrev pub lineIn : Line → List ℕ → RunTold
 lineIn line out = record { text = gave (line .count) out; end = line .end }
 
 unfoldable pub runTold : List ℕ → ℕ → List ℕ → RunTold
-runTold input start out = record { text = lineOf input start (runOf input start) out; end = runOf input start .end }
+runTold input start out = record { text = runLineOf input start (runOf input start) out; end = runOf input start .end }

@@ -75,7 +75,7 @@ fn about(asked: Asked) {
 }
 
 // Reads the input to its end. A proved loop has to end, and nothing says that an input does. So the
-// reads are counted down, from a number that no run uses up: each but the last gives a byte, and there
+// reads are counted down, from a number that no input uses up: each but the last gives a byte, and there
 // is room for 65,536.
 fn gather(input: &mut [u8], chunk: &mut [u8]) -> Gathered
     ensures { λ r. ⌜ r .count ≤ length (now (input .exit)) ⌝ }

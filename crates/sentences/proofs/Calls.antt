@@ -11,7 +11,7 @@ use Rattle.wire.proofs.Cases.{neither}
 use Rattle.text.specs.Put.{gave, putOf}
 use Rattle.text.proofs.Puts.{put-start}
 use Rattle.why.specs.declared.runs.Run.{Run}
-use Rattle.sentences.specs.Run.{noRun, runText, runOf, pastEndText, pastEndOf}
+use Rattle.sentences.specs.Run.{noRun, runText, runLineOf, pastEndText, pastEndOf}
 use Rattle.sentences.specs.Sentence.{noReason}
 use Rattle.sentences.proofs.Lengths.{run-length, past-end-length}
 
@@ -29,18 +29,18 @@ module _ (input : List ℕ) (start : ℕ) (run : Run) where
       (omega (arith, leb-false (run .end) start (some .1)), omega arith, parts .1)
 
   module _ (out : List ℕ) where
-    pub run-short : length out < 128 → gave 0 out ≡ runOf input start run out
-    unfolding runOf
+    pub run-short : length out < 128 → gave 0 out ≡ runLineOf input start run out
+    unfolding runLineOf
     run-short less = rw (lt-ltb (length out) 128 less)
 
     module _ (room : 128 ≤ length out) where
-      pub run-none : noRun input start (run .end) (run .reason) ≡ true → gave 0 out ≡ runOf input start run out
-      unfolding runOf
+      pub run-none : noRun input start (run .end) (run .reason) ≡ true → gave 0 out ≡ runLineOf input start run out
+      unfolding runLineOf
       run-none none = rw (le-ltb (length out) 128 room, none)
 
       pub run-whole : {r : ℕ} {after : List ℕ} → noRun input start (run .end) (run .reason) ≡ false
-          → gave r after ≡ putOf out 0 (runText input start (run .end) (run .reason)) → gave r after ≡ runOf input start run out
-      unfolding runOf
+          → gave r after ≡ putOf out 0 (runText input start (run .end) (run .reason)) → gave r after ≡ runLineOf input start run out
+      unfolding runLineOf
       run-whole has put =
           let known = has-run has in
           let fits = run-length start (run .end) (known .0) (known .1) input (run .reason) (known .2) in

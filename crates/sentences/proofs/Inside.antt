@@ -8,10 +8,10 @@ use lib.ListN.{length}
 use Rattle.text.specs.Put.{gave}
 use Rattle.text.proofs.Puts.{cond-inside}
 use Rattle.why.specs.declared.runs.Run.{Run}
-use Rattle.sentences.specs.Run.{noRun, runText, runOf, pastEndText, pastEndOf}
+use Rattle.sentences.specs.Run.{noRun, runText, runLineOf, pastEndText, pastEndOf}
 
-pub run-inside : (input : List ℕ) (start : ℕ) (run : Run) (out : List ℕ) (r : ℕ) (after : List ℕ) → gave r after ≡ runOf input start run out → r ≤ length after
-unfolding runOf
+pub run-inside : (input : List ℕ) (start : ℕ) (run : Run) (out : List ℕ) (r : ℕ) (after : List ℕ) → gave r after ≡ runLineOf input start run out → r ≤ length after
+unfolding runLineOf
 run-inside input start run out =
     cond-inside (ltb (length out) 128 || noRun input start (run .end) (run .reason)) (runText input start (run .end) (run .reason)) out
 

@@ -77,7 +77,7 @@ module _ (start end : ℕ) (first : start ≤ 65536) (last : end ≤ 65536) wher
   unfolding runSkipped
   run-skipped-length byte sync value few near =
       simp (length-append, hex-length)
-      (omega (arith, subject-length start end wasSkipped wereSkipped 20 first last (omega arith) (omega arith), short byte (omega arith), short sync (omega arith)))
+      (omega (arith, subject-length start end wasSkipped wereSkipped 38 first last (omega arith) (omega arith), short byte (omega arith), short sync (omega arith)))
 
   run-held-length : length (runHeld start end) ≤ 128
   unfolding runHeld

@@ -17,7 +17,7 @@ use Rattle.sentences.specs.Words.{wasHandedOut, wereHandedOut, wasSkippe
 unfoldable pub runHanded : ℕ → ℕ → List ℕ
 runHanded start end = subjectOf start end wasHandedOut wereHandedOut ++ countedOf ((end - start) / 512) oneFrame manyFrames
 
--- "bytes 2,048 to 2,553 were skipped: byte 0 of the sync at byte 2,048 is 33 and not 7F"
+-- "bytes 2,048 to 2,553 were skipped, the first because byte 0 of the sync at byte 2,048 is 33 and not 7F"
 unfoldable pub runSkipped : ℕ → ℕ → ℕ → ℕ → ℕ → List ℕ
 runSkipped start end byte sync value = subjectOf start end wasSkipped wereSkipped ++ commas byte ++ labelledOf syncAtByte sync ++ wrongOf value
 
@@ -37,8 +37,8 @@ runText input start end Held = runHeld start end
 abbrev pub noRun : List ℕ → ℕ → ℕ → Reason → Bool
 noRun input start end reason = ltb 65536 (length input) || ltb (length input) end || leb end start || noReason start reason
 
-unfoldable pub runOf : List ℕ → ℕ → Run → List ℕ → Written
-runOf input start run out =
+unfoldable pub runLineOf : List ℕ → ℕ → Run → List ℕ → Written
+runLineOf input start run out =
     cond (ltb (length out) 128 || noRun input start (run .end) (run .reason)) (gave 0 out) (written (runText input start (run .end) (run .reason)) out)
 
 -- "why: the place is past the end of the input, which has 6,138 bytes"

@@ -1,6 +1,6 @@
 -- T-05: the sentence about a place. Assumes nothing.
 use Prim.Native.Nat.{ℕ, _+_, _-_}
-use mathlib.Core.Bool.{Bool, false}
+use mathlib.Core.Bool.{Bool, true, false}
 use mathlib.Core.List.{List, [], _∷_, _++_}
 use lib.Dec.{ltb}
 use lib.ListN.{getD}
@@ -9,9 +9,9 @@ use Rattle.why.specs.declared.Reason.the-variants.{NotGiven, Inside, Near, Far,
 use Rattle.sentences.specs.Parts.{labelledOf, wrongOf}
 use Rattle.sentences.specs.Words.{byteWord, wasHanded, frameBegins, wasSkipped, syncThere, syncLater, stillHeld}
 
--- no place like this one can have the reason: the frame begins after it, or the byte is none of the three of a sync
+-- no place like this one can have the reason: none is given, the frame begins after it, or the byte is none of the three of a sync
 abbrev pub noReason : ℕ → Reason → Bool
-noReason place NotGiven = false
+noReason place NotGiven = true
 noReason place (Inside q) = ltb place q
 noReason place (Near byte) = ltb 2 byte
 noReason place (Far byte) = ltb 2 byte

@@ -44,17 +44,17 @@ pub(crate) fn subject(
 ) -> usize
     ensures { λ r. ⌜ gave r (now (out .exit)) ≡ putOf (now (out .entry)) at (subjectOf start end (now (one .entry)) (now (many .entry))) ⌝ }
 {
-    if less(end, start) == 1 {
+    if minus(end, start) == 1 {
         let only = labelled(out, at, b"byte ", start);
         return text::put(out, only, one);
     }
     let first = labelled(out, at, b"bytes ", start);
-    let last = labelled(out, first, b" to ", less(end, 1));
+    let last = labelled(out, first, b" to ", minus(end, 1));
     text::put(out, last, many)
 }
 
 // A difference, or 0.
-pub fn less(a: usize, b: usize) -> usize
+pub fn minus(a: usize, b: usize) -> usize
     ensures { λ r. ⌜ r ≡ a - b ⌝ }
 {
     if a < b {

@@ -2,7 +2,7 @@
 use crate::parts::byte_after;
 use crate::parts::counted;
 use crate::parts::labelled;
-use crate::parts::less;
+use crate::parts::minus;
 use crate::parts::subject;
 use crate::parts::wrong;
 use why::Reason;
@@ -41,7 +41,7 @@ pub(crate) fn handed(start: usize, end: usize, out: &mut [u8]) -> usize
         out,
         0,
     );
-    counted(less(end, start) / 512, b" frame\n", b" frames\n", out, next)
+    counted(minus(end, start) / 512, b" frame\n", b" frames\n", out, next)
 }
 
 pub(crate) fn skipped(
@@ -58,7 +58,7 @@ pub(crate) fn skipped(
         start,
         end,
         b" was skipped: byte ",
-        b" were skipped: byte ",
+        b" were skipped, the first because byte ",
         out,
         0,
     );

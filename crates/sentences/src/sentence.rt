@@ -1,7 +1,7 @@
 // The sentence about a place.
 use crate::parts::byte_after;
 use crate::parts::labelled;
-use crate::parts::less;
+use crate::parts::minus;
 use crate::parts::wrong;
 use why::Reason;
 ghost use mathlib.Core.Path.{_≡_};
@@ -30,7 +30,7 @@ pub(crate) fn inside(place: usize, q: usize, out: &mut [u8], at: usize) -> usize
     ensures { λ r. ⌜ gave r (now (out .exit)) ≡ putOf (now (out .entry)) at (insideText place q) ⌝ }
 {
     let named = labelled(out, at, b"byte ", place);
-    let nth = labelled(out, named, b" was handed out: it is byte ", less(place, q));
+    let nth = labelled(out, named, b" was handed out: it is byte ", minus(place, q));
     let frame = labelled(out, nth, b" of the frame that begins at byte ", q);
     text::byte(out, frame, b'\n')
 }

@@ -1,14 +1,15 @@
 -- T-05: a recording as runs of frames handed out, of bytes skipped, and what is held. Assumes nothing.
-use Prim.Native.Nat.{ℕ, zero, suc, _+_, _<_, _≤_}
+use Prim.Native.Nat.{ℕ, zero, suc, _+_, _-_, _*_, _/_, _%_, _<_, _≤_}
 use mathlib.Core.Path.{_≡_}
 use mathlib.Core.Logic.{_⊎_}
-use mathlib.Core.Bool.{Bool, cond, _&&_, Bool·beq}
+use mathlib.Core.Bool.{Bool, true, cond, _&&_, Bool·beq}
 use mathlib.Core.List.{List, [], _∷_}
 use lib.Dec.{leb, ltb}
 use lib.ListN.{length}
 use Rattle.reading.specs.Reading.{good}
 use Rattle.reading.specs.UpTo.{Comes}
 use Rattle.why.specs.Reasons.{InFrame, Skips, IsHeld, IsTrue}
+use Rattle.why.specs.Sums.{isInside}
 use Rattle.why.specs.Why.{skippedFor}
 use Rattle.why.specs.declared.Reason.{Reason}
 use Rattle.why.specs.declared.Reason.the-variants.{NotGiven, Inside, Near, Far, Held}
@@ -40,22 +41,24 @@ goingOf s p = record { reason = cond (good s p) (Inside p) (skippedFor s p); end
 unfoldable pub runOf : List ℕ → ℕ → Run
 runOf s p = cond (ltb (length s) (p + 515)) (heldUpTo (length s)) (goingOf s p)
 
--- a place is as a run with a reason says of all its places: inside a frame handed out, skipped, or held
+-- a place is as a run with a reason says of all its places: inside one of the frames handed out that follow directly on each other from its start
+-- on, skipped, or held
 abbrev pub Like : Reason → List ℕ → ℕ → Type 0
 Like NotGiven s p = ⊥
-Like (Inside start) s p = (q : ℕ) × InFrame s p q
+Like (Inside start) s p = InFrame s p (start + 512 * ((p - start) / 512))
 Like (Near byte) s p = Skips s p
 Like (Far byte) s p = Skips s p
 Like Held s p = IsHeld s p
 
--- A run is true of an input from a place on: its reason is true of its first place, all its places are alike, and the one behind it is not. There
--- the input ends, or the next run begins.
+-- A run is true of an input from a place on: its reason is true of its first place, all its places are alike, the one behind it is not, and frames are
+-- in it whole. Behind it the input ends, or the next run begins.
 pub record TrueRun (s : List ℕ) (start : ℕ) (run : Run) : Type 0 where
   pub some : start < run .end
   pub within : run .end ≤ length s
   pub first : IsTrue s start (run .reason)
   pub all-alike : (p : ℕ) → start ≤ p → p < run .end → Like (run .reason) s p
   pub no-longer : Like (run .reason) s (run .end) → ⊥
+  pub whole-frames : isInside (run .reason) ≡ true → (run .end - start) % 512 ≡ 0
   pub next : (run .end ≡ length s) ⊎ Comes s (run .end)
 
 -- runs one after another, from a place to the end of the input

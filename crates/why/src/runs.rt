@@ -14,8 +14,9 @@ pub struct Run {
     pub end: usize,
 }
 
-// The run that begins at a place to which the reading comes. From the first, at 0, each goes on where the one before
-// it ends, so that all of them together follow the reading once.
+// The run that begins at a place to which the reading comes, of an input of any length. From the first, at 0, each goes
+// on where the one before it ends, so that all of them together follow the reading once. Of any other place it tells
+// where the same test at it first goes another way; where fewer than 515 bytes remain, `end` is the input's length.
 pub fn run_from(input: &[u8], start: usize) -> Run
     ensures { λ r. ⌜ r ≡ runOf (now (input .entry)) start ⌝ }
 {

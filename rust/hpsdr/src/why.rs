@@ -103,8 +103,9 @@ impl fmt::Display for Reason {
 /// library's call.
 ///
 /// It does not say that a frame handed out is a true one: see [`Frames`](crate::Frames). And it knows the input alone.
-/// Where that is a part of a longer recording, the reading of the whole may come to other places, and what is held here
-/// is held only because the input ends.
+/// Where that is a part of a longer recording, let it begin at the first byte of the whole, or where a frame of the whole
+/// was handed out: then its reading is that of the whole from there on, as far as the part goes. With any other beginning
+/// the reading of the whole may come to other places. What is held at its end is held only because the input ends.
 pub fn explain(input: &[u8], place: usize) -> Result<Reason, Refusal> {
     // SAFETY: the pointer and the number are those of one slice.
     let returned = unsafe { raw::hpsdr_why_byte(input.as_ptr(), input.len(), place) };

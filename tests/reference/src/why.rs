@@ -24,7 +24,7 @@ pub enum Reason {
         /// The first of the bytes 0 to 2 of the later sync that is not 7F.
         byte: usize,
     },
-    /// It is held: the reading ends before it.
+    /// It is held: the reading ends at it or before it.
     Held,
 }
 

@@ -10,14 +10,14 @@ unfolding windowOf
 returns c =
     let put = c .before .before in
     let tested = put .before .before .before in
-    rw (lt-ltb _ _ (tested .if1 .taken), ← tested .before .less .ensures, ← put .before .before .less2 .ensures) (put .row .ensures)
+    rw (lt-ltb _ _ (tested .if1 .taken), ← tested .before .minus .ensures, ← put .before .before .minus2 .ensures) (put .row .ensures)
 
 returns-2 : tie.Need-returns-2
 unfolding windowOf
 returns-2 c =
     let put = c .before .before in
     let tested = put .before .before .before in
-    rw (le-ltb _ _ (tested .if1 .left), ← tested .before .less .ensures, ← put .before .before .less3 .ensures) (put .row2 .ensures)
+    rw (le-ltb _ _ (tested .if1 .left), ← tested .before .minus .ensures, ← put .before .before .minus3 .ensures) (put .row2 .ensures)
 
 pub window-spec : {M : Type 1} → statement M
 window-spec =

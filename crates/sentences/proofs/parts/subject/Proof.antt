@@ -11,7 +11,7 @@ returns c =
     let said = c .before .before in
     let named = said .before .before .before .before in
     let tested = named .before .before .before in
-    rw (eq-eqb _ _ (sym (tested .before .less .ensures) ∙ tested .if1 .taken)) (and-then _ _ _ _ (named .labelled .ensures) (said .put .ensures))
+    rw (eq-eqb _ _ (sym (tested .before .minus .ensures) ∙ tested .if1 .taken)) (and-then _ _ _ _ (named .labelled .ensures) (said .put .ensures))
 
 returns-2 : tie.Need-returns-2
 returns-2 c =
@@ -19,7 +19,7 @@ returns-2 c =
     let last = said .before .before .before .before in
     let first = last .before .before .before .before .before .before in
     let tested = first .before .before .before in
-    rw (ne-eqb _ _ (λ one. tested .if1 .left (tested .before .less .ensures ∙ one)), ← last .before .less2 .ensures)
+    rw (ne-eqb _ _ (λ one. tested .if1 .left (tested .before .minus .ensures ∙ one)), ← last .before .minus2 .ensures)
     (and-then _ _ _ _ (and-then _ _ _ _ (first .labelled2 .ensures) (last .labelled3 .ensures)) (said .put2 .ensures))
 
 pub subject-spec : {M : Type 1} → statement M

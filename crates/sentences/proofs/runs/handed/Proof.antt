@@ -10,7 +10,7 @@ unfolding runHanded
 returns c =
     let frames = c .before .before in
     let difference = frames .before .before .before .before in
-    and-then _ _ _ _ (difference .before .before .before .subject .ensures) (rw (difference .less .ensures) at (frames .counted .ensures))
+    and-then _ _ _ _ (difference .before .before .before .subject .ensures) (rw (difference .minus .ensures) at (frames .counted .ensures))
 
 pub handed-spec : {M : Type 1} → statement M
 handed-spec =

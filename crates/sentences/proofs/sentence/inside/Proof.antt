@@ -11,7 +11,7 @@ returns c =
     let end = c .before .before in
     let frame = end .before .before .before .before in
     let nth = frame .before .before .before .before .before in
-    rw (← nth .before .less .ensures)
+    rw (← nth .before .minus .ensures)
     (and-then _ _ _ _ (and-then _ _ _ _ (and-then _ _ _ _ (nth .before .before .before .before .before .before .labelled .ensures) (nth .labelled2 .ensures)) (frame .labelled3 .ensures)) (end .byte .ensures))
 
 pub inside-spec : {M : Type 1} → statement M
