@@ -41,7 +41,13 @@ pub(crate) fn handed(start: usize, end: usize, out: &mut [u8]) -> usize
         out,
         0,
     );
-    counted(minus(end, start) / 512, b" frame\n", b" frames\n", out, next)
+    counted(
+        minus(end, start) / 512,
+        b" frame\n",
+        b" frames\n",
+        out,
+        next,
+    )
 }
 
 pub(crate) fn skipped(
