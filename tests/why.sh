@@ -1,7 +1,7 @@
 #!/bin/sh
 # Runs ./why on inputs at the edges of T-05, "why were these bytes thrown out?", and compares what it prints, and what it
 # says on standard error, with lines that were worked out from the request and from document 01's reading by hand.
-# POSIX sh.
+# POSIX sh and xxd.
 program=./why
 . "$(dirname "$0")/program.sh"
 
@@ -118,6 +118,13 @@ tells 'six bytes lost' '' "$@"
 tells 'the frame that lost them' 2048 'byte 2,048 was skipped: byte 0 of the sync 512 bytes later is 20 and not 7F' \
     'from byte 2,042: 44  44  00  00  00  00 [7F][7F][7F] 20  42  42  42  00  11  11 ' \
     'from byte 2,554: 7F  7F  7F  00  3E  21 [20] 17  11  11  11  11  11  11  22  22 '
+# These two windows are the bytes that xxd shows there.
+for from in 2042 2554; do
+    xxd -u -p -s "$from" -l 16 "$room/in"
+done >"$room/dump"
+sed -n 's/^from byte [0-9,]*://p' "$room/got" | tr -d '[] ' >"$room/shown"
+cmp -s "$room/dump" "$room/shown" || fails 'the bytes around a place' "$(diff "$room/dump" "$room/shown")"
+tried=$((tried + 1))
 examples/recording.sh imitated >"$room/in"
 tells 'a frame that the next one imitates' '' 'bytes 0 to 1,023 were handed out: 2 frames' \
     'bytes 1,024 to 1,529 were skipped, the first because byte 0 of the sync at byte 1,536 is 20 and not 7F' \
