@@ -2,6 +2,8 @@
 //
 // No function here has a `requires`: each takes what it is given, and where there are too few cells nothing
 // is written. `specs/` has what each one means.
+#![tactic(auto)]
+
 ghost use Rattle.std.specs.Prelude.{◌≡◌};
 ghost use Rattle.wire.specs.Answers.{told};
 ghost use Rattle.cells.specs.Cells.{within, got, put_over, kept_over, wrote, offered};

@@ -4,6 +4,8 @@
 // The call writes at the start of out and answers how many bytes it wrote. Where out is too short for any
 // such text, for a place that the input does not have, and for a reason that it cannot have, out stays
 // as it is and the answer is 0.
+#![tactic(auto)]
+
 pub(crate) mod window;
 
 ghost use Rattle.std.specs.Prelude.{◌≡◌};

@@ -8,7 +8,7 @@ use sentences::parts::{byte_after, labelled, minus};
 use why::Reason;
 
 // The bytes that a test looked at: `near` of them from a place on, and `far` from 512 later on.
-#[derive(Drop)]
+#[derive(Clone, Copy)]
 pub struct Tested {
     pub from: usize,
     pub near: usize,

@@ -4,6 +4,8 @@
 //
 // The reasons stand in `why`, the words in `sentences`, the bytes in `explained`. What cannot be done is
 // said in one line on standard error.
+#![tactic(auto)]
+
 ghost use Rattle.std.specs.Prelude.{◌≡◌, true, false, ◌≤◌, length};
 ghost use Rattle.explaining.specs.Gathered.{kept, appended, AppendsSome};
 ghost use Rattle.explaining.specs.Told.{told_in, place_told, line_in, run_told};
@@ -12,14 +14,14 @@ use libc::{STDERR_FILENO, STDIN_FILENO, STDOUT_FILENO};
 use text::place::{Place, place_of};
 
 // What is asked about.
-#[derive(Drop)]
+#[derive(Clone, Copy)]
 enum Asked {
     Everything,
     At(u64),
 }
 
 // The bytes of the input so far, whether there is more to read, and whether they are all there are.
-#[derive(Drop)]
+#[derive(Clone, Copy)]
 struct Gathered {
     count: usize,
     going: bool,
@@ -27,14 +29,14 @@ struct Gathered {
 }
 
 // A text at the start of a buffer, and whether it is the answer. Otherwise it says that there is none.
-#[derive(Drop)]
+#[derive(Clone, Copy)]
 struct Told {
     count: usize,
     answer: bool,
 }
 
 // The line of a run at the start of a buffer, and where the run ends.
-#[derive(Drop)]
+#[derive(Clone, Copy)]
 struct Line {
     count: usize,
     end: usize,

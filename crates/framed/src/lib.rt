@@ -3,6 +3,8 @@
 //
 // A caller hands each piece of its input to a `stream::Stream`, and the frames that `feed` put at the
 // start of its output to `lines`.
+#![tactic(auto)]
+
 ghost use Rattle.std.specs.Prelude.{◌≡◌, ◌<◌, length};
 ghost use Rattle.text.specs.Put.{gave};
 ghost use Rattle.framed.specs.Hexadecimal.{digit_of, line_of};

@@ -6,6 +6,8 @@
 // What the lines are stands in `framed`. Nothing is fed at the end of the input, so that what is held
 // there is not printed. A read or a write that fails, or an input that is too long, ends the program,
 // with a line that says so in the place of the closing line.
+#![tactic(auto)]
+
 ghost use Rattle.std.specs.Prelude.{◌≡◌, true, false};
 ghost use Rattle.text.specs.Put.{gave};
 ghost use Rattle.hexline.specs.Tally.{tally_of};
@@ -18,7 +20,7 @@ use stream::Stream;
 
 // What goes from one read to the next: the stream's record, how many bytes of the text wait to be
 // written, and whether there is more to do.
-#[derive(Drop)]
+#[derive(Clone, Copy)]
 struct Passing {
     stream: Stream,
     waiting: usize,

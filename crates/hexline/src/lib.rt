@@ -5,6 +5,8 @@
 // stops after the first end of a line among them; the caller goes on with the bytes that are left,
 // and then with the next chunk. `end` says that the text is over. A line of any length is read in
 // this fixed space, and how the text is cut into chunks makes no difference to its lines.
+#![tactic(auto)]
+
 mod digit;
 pub mod print;
 
@@ -19,7 +21,7 @@ const FRAME: usize = 1024;
 // The count of a line that is no frame, however it goes on.
 const NO_FRAME: usize = 1025;
 
-#[derive(Drop)]
+#[derive(Clone, Copy)]
 pub struct Reader {
     // the bytes of the present line's digits so far; after `Line::Frame`, the frame
     pub frame: [u8; 512],
@@ -29,7 +31,7 @@ pub struct Reader {
     pub number: u64,
 }
 
-#[derive(Drop)]
+#[derive(Clone, Copy)]
 pub enum Line {
     // no line ended
     Unfinished,
@@ -39,7 +41,7 @@ pub enum Line {
     Length,
 }
 
-#[derive(Drop)]
+#[derive(Clone, Copy)]
 pub struct Taken {
     pub reader: Reader,
     // how many bytes of the chunk were read: all of them, or those up to the line's end

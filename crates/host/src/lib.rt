@@ -4,6 +4,8 @@
 // the frame whose word is due, so that a record left unchanged is wholly sent within eleven builds. Both
 // take what they are given: what cannot be read or built is refused by its number, and a refusal
 // changes nothing.
+#![tactic(auto)]
+
 ghost use Rattle.std.specs.Prelude.{◌≡◌, ◌≤◌, length};
 ghost use Rattle.wire.specs.Answers.{first};
 ghost use Rattle.host.specs.Build.{refusals as unfit, gave as built, build_of, fresh_builder, next_turn};
@@ -18,7 +20,7 @@ use wire::sync::{no_sync, sync_at};
 use wire::{Answer, number};
 
 // The address of the word that came, and the record after it.
-#[derive(Drop)]
+#[derive(Clone, Copy)]
 pub struct Reading {
     pub answer: Answer,
     pub address: u8,
@@ -78,13 +80,13 @@ pub(crate) fn control_of(frame: &[u8]) -> Control
 }
 
 // A host record and the word that is due, 0 to 10.
-#[derive(Drop)]
+#[derive(Clone, Copy)]
 pub struct Builder {
     pub host: Host,
     pub turn: u8,
 }
 
-#[derive(Drop)]
+#[derive(Clone, Copy)]
 pub struct Built {
     pub answer: Answer,
     pub builder: Builder,

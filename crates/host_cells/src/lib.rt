@@ -1,4 +1,6 @@
 // The host record as 62 cells, in the order of its fields.
+#![tactic(auto)]
+
 ghost use Rattle.std.specs.Prelude.{◌≡◌, ◌++◌};
 ghost use Rattle.host_cells.specs.Host.{codes_of, word0_cells, tuned_cells, word9_cells, word10_cells, host_cells};
 
@@ -20,7 +22,7 @@ pub fn host_cells(host: Host) -> [u32; HOST]
 }
 
 // The codes of the named choices.
-#[derive(Drop)]
+#[derive(Clone, Copy)]
 pub(crate) struct Codes {
     pub(crate) speed: u8,
     pub(crate) source10: u8,

@@ -1,4 +1,6 @@
 // Frames from the host, on numbers and lent slices: the host record and the builder cross as cells.
+#![tactic(auto)]
+
 ghost use Rattle.std.specs.Prelude.{◌≡◌, [], ◌∷◌, ◌++◌, suc, ◌≤◌, length};
 ghost use Rattle.wire.specs.Answers.{number_of, told};
 ghost use Rattle.host_record.specs.Record.{fresh};

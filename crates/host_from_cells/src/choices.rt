@@ -29,7 +29,7 @@ pub(crate) fn relay_of(code: u32) -> Relay
 }
 
 // The host record's named choices.
-#[derive(Drop)]
+#[derive(Clone, Copy)]
 pub(crate) struct Choices {
     pub(crate) speed: Speed,
     pub(crate) source10: Source10,

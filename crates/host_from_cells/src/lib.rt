@@ -1,6 +1,8 @@
 // The host record that 62 cells are, and the builder that those and its turn are.
 //
 // No public function here has a `requires`: too few cells give a fresh record.
+#![tactic(auto)]
+
 mod choices;
 mod parts;
 

@@ -2,7 +2,7 @@
 ghost use Rattle.std.specs.Prelude.{◌≡◌, ◌<◌};
 ghost use Rattle.host_record.specs.Choices.{speed_code, speed_of, source10_code, source10_of, source122_code, source122_of, boards_code, boards_of, microphone_code, microphone_of, attenuator_code, attenuator_of, antenna_code, antenna_of, relay_code, relay_of, jack_code, jack_of};
 
-#[derive(Drop)]
+#[derive(Clone, Copy)]
 pub enum Speed {
     Khz48,
     Khz96,
@@ -11,7 +11,7 @@ pub enum Speed {
 }
 
 // Where the 10 MHz reference comes from.
-#[derive(Drop)]
+#[derive(Clone, Copy)]
 pub enum Source10 {
     AtlasOrExcalibur,
     Penelope,
@@ -19,20 +19,20 @@ pub enum Source10 {
 }
 
 // Code 3 names no source.
-#[derive(Drop)]
+#[derive(Clone, Copy)]
 pub enum FoundSource10 {
     Named(Source10),
     Unassigned,
 }
 
 // Where the 122.88 MHz clock comes from.
-#[derive(Drop)]
+#[derive(Clone, Copy)]
 pub enum Source122 {
     Penelope,
     Mercury,
 }
 
-#[derive(Drop)]
+#[derive(Clone, Copy)]
 pub enum Boards {
     Neither,
     Penelope,
@@ -40,13 +40,13 @@ pub enum Boards {
     Both,
 }
 
-#[derive(Drop)]
+#[derive(Clone, Copy)]
 pub enum Microphone {
     Janus,
     Penelope,
 }
 
-#[derive(Drop)]
+#[derive(Clone, Copy)]
 pub enum Attenuator {
     Db0,
     Db10,
@@ -54,7 +54,7 @@ pub enum Attenuator {
     Db30,
 }
 
-#[derive(Drop)]
+#[derive(Clone, Copy)]
 pub enum Antenna {
     Unused,
     Rx1,
@@ -62,7 +62,7 @@ pub enum Antenna {
     Xv,
 }
 
-#[derive(Drop)]
+#[derive(Clone, Copy)]
 pub enum Relay {
     Tx1,
     Tx2,
@@ -70,14 +70,14 @@ pub enum Relay {
 }
 
 // Code 3 names no relay.
-#[derive(Drop)]
+#[derive(Clone, Copy)]
 pub enum FoundRelay {
     Named(Relay),
     Unassigned,
 }
 
 // Orion's microphone jack: the contact that the PTT goes to; the microphone goes to the other.
-#[derive(Drop)]
+#[derive(Clone, Copy)]
 pub enum Jack {
     PttToRing,
     PttToTip,

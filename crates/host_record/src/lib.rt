@@ -2,5 +2,7 @@
 // their codes on the wire.
 //
 // No function here has a `requires`: a code above a choice's last is taken for the last.
+#![tactic(auto)]
+
 pub mod choices;
 pub mod record;

@@ -7,7 +7,7 @@ use crate::choices::{
 };
 
 // Word 9's C2.
-#[derive(Drop)]
+#[derive(Clone, Copy)]
 pub struct Controls {
     // of the microphone
     pub boost: bool,
@@ -23,7 +23,7 @@ pub struct Controls {
 }
 
 // Word 9's C3: the high-pass filters of 13, 20, 9.5, 6.5 and 1.5 MHz, and three switches beside them.
-#[derive(Drop)]
+#[derive(Clone, Copy)]
 pub struct HighPass {
     pub mhz13: bool,
     pub mhz20: bool,
@@ -38,7 +38,7 @@ pub struct HighPass {
 }
 
 // Word 9's C4: the low-pass filters of 30/20, 60/40, 80, 160, 6, 12/10 and 17/15 m.
-#[derive(Drop)]
+#[derive(Clone, Copy)]
 pub struct LowPass {
     pub m30: bool,
     pub m60: bool,
@@ -50,7 +50,7 @@ pub struct LowPass {
 }
 
 // Word 10: what stands before the receivers and the microphone.
-#[derive(Drop)]
+#[derive(Clone, Copy)]
 pub struct Front {
     // of receivers 1 to 4; word 0's preamp is another
     pub preamp1: bool,
@@ -69,7 +69,7 @@ pub struct Front {
     pub c4: u8,
 }
 
-#[derive(Drop)]
+#[derive(Clone, Copy)]
 pub struct Host {
     pub mox: bool,
     // word 0

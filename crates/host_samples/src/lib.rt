@@ -3,6 +3,8 @@
 //
 // `read_slots` and `write_numbers` take what they are given: unless the payload has 504 bytes and the slice at
 // least 252 numbers, the one that is lent stays as it is.
+#![tactic(auto)]
+
 ghost use Rattle.std.specs.Prelude.{◌≡◌, ◌<◌, length};
 ghost use Rattle.wire.specs.Lists.{tab};
 ghost use Rattle.host_samples.specs.Samples.{pair_of, slot_number, pairs_from, whole, slots_read, numbers_written};

@@ -1,6 +1,8 @@
 // The host's turn of words: the word that is due and its bytes, and the records that can be sent.
 //
 // `put_head` takes what it is given, and writes nothing that cannot be sent.
+#![tactic(auto)]
+
 ghost use Rattle.std.specs.Prelude.{◌≡◌, ◌≤◌};
 ghost use Rattle.wire.specs.Answers.{first};
 ghost use Rattle.wire.specs.Sync.{headed};

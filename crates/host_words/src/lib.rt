@@ -1,6 +1,8 @@
 // The words from the host: the control bytes C0 to C4, and the record after the word that they carry.
 //
 // `reserved` and `next` take any five bytes; a word that is not listed sets MOX only.
+#![tactic(auto)]
+
 ghost use Rattle.std.specs.Prelude.{◌≡◌, suc, ◌≤◌};
 ghost use Rattle.wire.specs.Answers.{first};
 ghost use Rattle.host_words.specs.Words.{source10_or, relay_or, controls_of, highpass_of, lowpass_of, front_of, unassigned, last_word, heard, after};
@@ -14,7 +16,7 @@ use wire::numbers::be32;
 use wire::{Answer, Cause};
 
 // C0 to C4, as they stand in a frame.
-#[derive(Drop)]
+#[derive(Clone, Copy)]
 pub struct Control {
     pub c0: u8,
     pub c1: u8,

@@ -2,6 +2,8 @@
 //
 // It is a library of its own beside `hpsdr`, of which an object of its own is made, so that neither changes how the
 // other is compiled.
+#![tactic(auto)]
+
 ghost use Rattle.std.specs.Prelude.{◌≡◌};
 ghost use Rattle.cells.specs.Cells.{wrote};
 ghost use Rattle.plain.specs.Plain.{Few};

@@ -3,6 +3,8 @@
 //
 // It is a library of its own beside `hpsdr`, of which an object of its own is made, so that neither changes how the
 // other is compiled.
+#![tactic(auto)]
+
 ghost use Rattle.std.specs.Prelude.{◌≡◌, ◌≤◌, length};
 ghost use Rattle.wire.specs.Answers.{told};
 ghost use Rattle.cells.specs.Cells.{got};

@@ -3,11 +3,13 @@
 //
 // `row_of` takes any number and refuses those that the table does not have. That each row follows the
 // rule of the protocol (as many whole slots as fit, the rest padding) is proved once, over the table.
+#![tactic(auto)]
+
 ghost use Rattle.std.specs.Prelude.{◌≡◌};
 ghost use Rattle.layout.specs.Slots.{lookup};
 
 // A slot's bytes, the slots of a payload, and the bytes of padding after them.
-#[derive(Drop)]
+#[derive(Clone, Copy)]
 pub struct Row {
     pub slot: usize,
     pub slots: usize,
@@ -15,7 +17,7 @@ pub struct Row {
 }
 
 // The row of a number of receivers, or that there is none: the number is not 1 to 8.
-#[derive(Drop)]
+#[derive(Clone, Copy)]
 pub enum Layout {
     Of(Row),
     BadCount,
@@ -23,7 +25,7 @@ pub enum Layout {
 
 // A row as the table has it. Its numbers are small, and so is the table, which the compiler lays on the stack
 // wherever a row is looked up.
-#[derive(Drop)]
+#[derive(Clone, Copy)]
 struct Entry {
     slot: u8,
     slots: u8,

@@ -3,6 +3,8 @@
 //
 // A caller hands each chunk of its input to a `hexline::Reader`, and what `take` or `end` gives to
 // `row`. The rows gather in a lent slice, which the caller writes out before it is full.
+#![tactic(auto)]
+
 ghost use Rattle.std.specs.Prelude.{◌≡◌};
 ghost use Rattle.hexline.specs.Lines.{a_frame};
 ghost use Rattle.text.specs.Put.{gave};

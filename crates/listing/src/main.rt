@@ -4,6 +4,8 @@
 // What a row is stands in `listed`. Here chunks are read, rows gather in a buffer, and the buffer is
 // written when it has no room for another row. A read or a write that fails ends the program, with a
 // line that says so on standard error.
+#![tactic(auto)]
+
 ghost use Rattle.std.specs.Prelude.{◌≡◌, true, ◌≤◌, length};
 ghost use Rattle.text.specs.Put.{gave};
 ghost use Rattle.hexline.specs.Reader.{end_of};
@@ -17,7 +19,7 @@ use libc::{STDERR_FILENO, STDIN_FILENO, STDOUT_FILENO};
 
 // What goes from one chunk to the next: the reader of lines, how many bytes of the output buffer are
 // rows that wait to be written, and whether there is more to do.
-#[derive(Drop)]
+#[derive(Clone, Copy)]
 struct Listing {
     reader: Reader,
     waiting: usize,

@@ -1,5 +1,7 @@
 // The plain reader: an input of up to 65,536 bytes, read at once, place by place, by the words of document 01's rule.
 // It keeps nothing between calls, and leans on the rule and on no other reader.
+#![tactic(auto)]
+
 ghost use Rattle.std.specs.Prelude.{◌≡◌};
 ghost use Rattle.plain.specs.Plain.{gave, plain_of};
 
@@ -11,7 +13,7 @@ use wire::sync::sync_at;
 pub const MOST: usize = 65536;
 
 // What a call gives back: the frames handed out, the bytes skipped, and how many are left at the end of the input.
-#[derive(Drop)]
+#[derive(Clone, Copy)]
 pub struct Plain {
     pub answer: Answer,
     pub frames: usize,

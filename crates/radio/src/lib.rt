@@ -6,6 +6,8 @@
 // gives every sample of the frame, says which word came, and hands back the record with that word's fields
 // in it; refused for its sync or its padding it says which byte is wrong, and for a level above 4,095 which level.
 // A write settles every byte of the frame.
+#![tactic(auto)]
+
 mod export;
 
 ghost use Rattle.std.specs.Prelude.{◌≡◌, ◌+◌, ◌≤◌, length, drop};
@@ -25,7 +27,7 @@ use wire::Answer;
 
 // What a read gives: the answer, the word that came, and the record after it. Refused, the word is
 // unlisted 0 and the record is the one given.
-#[derive(Drop)]
+#[derive(Clone, Copy)]
 pub struct Reading {
     pub answer: Answer,
     pub word: Word,
@@ -64,7 +66,7 @@ pub fn read(
 }
 
 // What an update gives beside the record: the answer and the word, as a read gives them.
-#[derive(Drop)]
+#[derive(Clone, Copy)]
 pub struct Updated {
     pub answer: Answer,
     pub word: Word,

@@ -1,5 +1,7 @@
 // Frames from the radio, and how they are laid out, on numbers and lent slices: the status record crosses
 // as cells.
+#![tactic(auto)]
+
 pub mod status;
 
 ghost use Rattle.std.specs.Prelude.{◌≡◌, ◌≤◌, length};

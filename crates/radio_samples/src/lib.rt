@@ -2,6 +2,8 @@
 //
 // `read_samples` and `write_samples` take any receiver count and slices of any length. Each does its work
 // on all of them or leaves them as they are.
+#![tactic(auto)]
+
 mod fill;
 mod samples;
 
@@ -35,7 +37,7 @@ pub fn write_samples(iq: &[i32], mic: &[i16], receivers: usize, frame: &mut [u8]
 }
 
 // The row for which everything is there, or that something is missing.
-#[derive(Drop)]
+#[derive(Clone, Copy)]
 pub(crate) enum Fit {
     For(Row),
     Unfit,

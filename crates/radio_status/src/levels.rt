@@ -7,7 +7,7 @@ use wire::numbers::be16;
 use wire::{Answer, Cause};
 
 // A level as its two bytes tell it: a number up to 4,095, or none.
-#[derive(Drop)]
+#[derive(Clone, Copy)]
 pub enum Level {
     Twelve(u16),
     Above,
@@ -26,14 +26,14 @@ impl Level {
 }
 
 // The number in C1 and C2, and the one in C3 and C4.
-#[derive(Drop)]
+#[derive(Clone, Copy)]
 pub struct TwoLevels {
     pub c1c2: u16,
     pub c3c4: u16,
 }
 
 // Both numbers, or the refusal of the first that is a level above 4,095.
-#[derive(Drop)]
+#[derive(Clone, Copy)]
 pub enum Levels {
     Both(TwoLevels),
     Refused(Answer),

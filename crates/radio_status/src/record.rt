@@ -4,7 +4,7 @@ ghost use Rattle.radio_status.specs.Record.{fresh_status};
 
 // Whether each converter has been driven past its range. ADC 1 is told by words 0 and 4.
 #[repr(C)]
-#[derive(Drop)]
+#[derive(Clone, Copy)]
 pub struct Overflow {
     pub adc1: bool,
     pub adc2: bool,
@@ -14,7 +14,7 @@ pub struct Overflow {
 
 // Word 0, but for the overflow. An input is active when its bit is 0.
 #[repr(C)]
-#[derive(Drop)]
+#[derive(Clone, Copy)]
 pub struct Inputs {
     pub io1: bool,
     pub io2: bool,
@@ -29,7 +29,7 @@ pub struct Inputs {
 
 // Word 1: forward power.
 #[repr(C)]
-#[derive(Drop)]
+#[derive(Clone, Copy)]
 pub struct ForwardLevels {
     pub ain5: u16,
     pub ain1: u16,
@@ -37,7 +37,7 @@ pub struct ForwardLevels {
 
 // Word 2: reverse power, and AIN3.
 #[repr(C)]
-#[derive(Drop)]
+#[derive(Clone, Copy)]
 pub struct ReverseLevels {
     pub ain2: u16,
     pub ain3: u16,
@@ -45,7 +45,7 @@ pub struct ReverseLevels {
 
 // Word 3: AIN4, and AIN6, which is the supply on Hermes.
 #[repr(C)]
-#[derive(Drop)]
+#[derive(Clone, Copy)]
 pub struct SupplyLevels {
     pub ain4: u16,
     pub ain6: u16,
@@ -53,7 +53,7 @@ pub struct SupplyLevels {
 
 // Word 4, but for the overflows: the software versions of boards 1 to 4, 0 to 127.
 #[repr(C)]
-#[derive(Drop)]
+#[derive(Clone, Copy)]
 pub struct Versions {
     pub board1: u8,
     pub board2: u8,
@@ -62,7 +62,7 @@ pub struct Versions {
 }
 
 #[repr(C)]
-#[derive(Drop)]
+#[derive(Clone, Copy)]
 pub struct Status {
     pub dot: bool,
     pub dash: bool,

@@ -8,21 +8,21 @@ use crate::record::{
 };
 
 // Word 0 as it came: ADC 1's overflow, and the rest.
-#[derive(Drop)]
+#[derive(Clone, Copy)]
 pub struct InputWord {
     pub adc1: bool,
     pub inputs: Inputs,
 }
 
 // Word 4 as it came.
-#[derive(Drop)]
+#[derive(Clone, Copy)]
 pub struct BoardWord {
     pub overflow: Overflow,
     pub versions: Versions,
 }
 
 // Which word came, with its contents: words 0 to 4, or one that is not listed, by its address.
-#[derive(Drop)]
+#[derive(Clone, Copy)]
 pub enum Word {
     Input(InputWord),
     Forward(ForwardLevels),

@@ -4,6 +4,8 @@
 // A line is written at the start of out, and the answer is how many bytes were written. Where out is too
 // short for any such line, for a run that the input does not have, and for a reason that its first place
 // cannot have, out stays as it is and the answer is 0. A sentence and the parts of one are put from a place on, as `text` puts its own.
+#![tactic(auto)]
+
 pub mod parts;
 pub(crate) mod runs;
 pub mod sentence;

@@ -3,6 +3,8 @@
 //
 // A `Stream` is a value. Start with `Stream::fresh()`, and give each record that `feed` returns to
 // the next call, with the next piece. A refusal hands the record and the output back as they were.
+#![tactic(auto)]
+
 mod parts;
 pub mod scan;
 
@@ -21,7 +23,7 @@ pub const MOST: usize = 4096;
 // No more bytes are fed to one stream.
 pub const FULL: u64 = 0x1_0000_0000_0000;
 
-#[derive(Drop)]
+#[derive(Clone, Copy)]
 pub struct Stream {
     // the bytes left by the calls so far; the cells past `count` are zero
     pub held: [u8; 514],
@@ -32,7 +34,7 @@ pub struct Stream {
 }
 
 // The numbers of a record whose cells are lent, and not part of it.
-#[derive(Drop)]
+#[derive(Clone, Copy)]
 pub struct Counts {
     pub count: usize,
     pub frames: u64,
@@ -41,7 +43,7 @@ pub struct Counts {
 }
 
 // What a call gives back: the frames are those handed out in this call.
-#[derive(Drop)]
+#[derive(Clone, Copy)]
 pub struct Fed {
     pub answer: Answer,
     pub frames: usize,

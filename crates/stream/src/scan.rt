@@ -8,7 +8,7 @@ use crate::MOST;
 use crate::parts::{byte, put_part};
 
 // The frames handed out, the bytes skipped, and the place of what is left.
-#[derive(Drop)]
+#[derive(Clone, Copy)]
 pub struct Scanned {
     pub frames: usize,
     pub skipped: usize,

@@ -2,6 +2,8 @@
 //
 // No public function here has a `requires`: where there are too few cells nothing is written, and what is
 // made of them is a fresh record.
+#![tactic(auto)]
+
 ghost use Rattle.std.specs.Prelude.{◌≡◌, ◌≤◌, length, take};
 ghost use Rattle.std.proofs.lemmas.List.Edits.{sets};
 ghost use Rattle.stream_cells.specs.Stream.{lent, counts_of, stream_in, put_in};

@@ -1,5 +1,7 @@
 // The stream reader, on numbers and lent slices: its record crosses as four counts, and the 514 bytes that
 // may be held.
+#![tactic(auto)]
+
 mod held;
 
 ghost use Rattle.std.specs.Prelude.{◌≡◌, true, [], ◌∷◌, ◌+◌, ◌-◌, ◌*◌, ◌^◌, ◌≤◌, length, get_or};

@@ -2,6 +2,8 @@
 //
 // Each call puts its text from a place on and answers the place after it, for the next to go on from.
 // What the slice has no room for is left out: texts that do not fit end where the slice does.
+#![tactic(auto)]
+
 pub mod place;
 
 ghost use Rattle.std.specs.Prelude.{◌≡◌, [], ◌∷◌, ◌<◌};

@@ -5,7 +5,7 @@ ghost use Rattle.text.specs.Place.{place_of, capped_of};
 // Every greater number counts as this one.
 pub const MOST: u64 = 1_000_000_000;
 
-#[derive(Drop)]
+#[derive(Clone, Copy)]
 pub enum Place {
     // the text is empty, or has a byte that is no decimal digit
     NoNumber,

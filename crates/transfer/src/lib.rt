@@ -4,6 +4,8 @@
 // `read` is the call. It takes what it is given, and refuses before any frame is read what is wrong with the
 // whole of it. Then the frames are read in order, each by its single read, up to the first that is refused: those
 // before it stay read.
+#![tactic(auto)]
+
 ghost use Rattle.std.specs.Prelude.{◌≡◌, cond, ◌+◌, ◌<◌, ◌≤◌, length};
 ghost use Rattle.wire.specs.Answers.{accepts};
 ghost use Rattle.wire.specs.declared.Answer.TheVariants.{Accepted};
@@ -19,7 +21,7 @@ use wire::Answer;
 // What a transfer gives: the answer, how many frames were read, and the record after them. A refused frame and
 // those behind it are not read; its answer, place and all, is the transfer's, and the number of frames read is
 // its index, from 0.
-#[derive(Drop)]
+#[derive(Clone, Copy)]
 pub struct Transfer {
     pub answer: Answer,
     pub frames: usize,

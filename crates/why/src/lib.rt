@@ -1,6 +1,8 @@
 // Why a byte of an input was thrown out: the reason of a place, by the reading from place 0.
 //
 // Of each place of an input exactly one reason is true. `specs/Reasons.antt` says when each of them is.
+#![tactic(auto)]
+
 mod place;
 mod runs;
 
@@ -14,7 +16,7 @@ use wire::Answer;
 // No input is longer.
 pub const MOST: usize = 65536;
 
-#[derive(Drop)]
+#[derive(Clone, Copy)]
 pub enum Reason {
     // the call was refused
     NotGiven,
@@ -28,7 +30,7 @@ pub enum Reason {
     Held,
 }
 
-#[derive(Drop)]
+#[derive(Clone, Copy)]
 pub struct Why {
     pub answer: Answer,
     pub reason: Reason,

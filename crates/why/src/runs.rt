@@ -5,7 +5,7 @@ ghost use Rattle.why.specs.Runs.{held_up_to, going_of, run_of, step_by, run_end}
 use crate::Reason;
 use crate::place::{good_at, skipped};
 
-#[derive(Drop)]
+#[derive(Clone, Copy)]
 pub struct Run {
     // of the run's first place
     pub reason: Reason,

@@ -2,6 +2,8 @@
 // the sync bytes, and the answers that the calls of this library give.
 //
 // No function here has a `requires`: each takes what it is given. `specs/` has what each one means.
+#![tactic(auto)]
+
 pub mod copy;
 pub mod fields;
 pub mod numbers;
@@ -15,7 +17,7 @@ ghost use Rattle.wire.specs.Causes.{cause_number};
 
 // What a call answers: it is accepted, or one of the nine refusals, in the order they are tested. Three of
 // them carry their place: the byte of the frame, from 0, that is wrong, or the cause.
-#[derive(Drop)]
+#[derive(Clone, Copy)]
 pub enum Answer {
     Accepted,
     BadState,
@@ -32,7 +34,7 @@ pub enum Answer {
 // What is refused as RESERVED, in the order it is tested. Of a host frame the unassigned codes and bits: word
 // 0's 10 MHz source and its transmit relay, word 9's C4 bit 7, word 10's C1 bit 7. Of a radio frame the levels
 // above twelve bits: word 1's AIN5 and AIN1, word 2's AIN2 and AIN3, word 3's AIN4 and AIN6.
-#[derive(Drop)]
+#[derive(Clone, Copy)]
 pub enum Cause {
     Source10,
     Relay,

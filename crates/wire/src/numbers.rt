@@ -9,7 +9,7 @@ pub type Bytes2 = [u8; 2];
 pub type Bytes4 = [u8; 4];
 
 // The bytes of a 24-bit sample, and whether the number that was given fits them.
-#[derive(Drop)]
+#[derive(Clone, Copy)]
 pub struct Written24 {
     pub fits: bool,
     pub bytes: [u8; 3],
