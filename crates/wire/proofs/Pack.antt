@@ -61,11 +61,15 @@ fields-cons w ws c = let up : 0 + w ≡ w + 0 = omega arith in rw (div-one c, up
 
 pub pack-fits : (ws ds : List ℕ) → Fit ws ds → pack ws ds < 2 ^ width_of ws
 pack-fits [] [] f = omega arith
+pack-fits [] (d ∷ ds) f = elim f [ ]
+pack-fits (w ∷ ws) [] f = elim f [ ]
 pack-fits (w ∷ ws) (d ∷ ds) f = rw (pack-cons w d ws ds, pow-add 2 (width_of ws) w) (digits_lt (pack-fits ws ds f.1) f.0)
 
 -- fields that fit come back from the byte that they are packed into ..
 pub fields-pack : (ws ds : List ℕ) → Fit ws ds → fields ws (pack ws ds) ≡ ds
 fields-pack [] [] f = refl
+fields-pack [] (d ∷ ds) f = elim f [ ]
+fields-pack (w ∷ ws) [] f = elim f [ ]
 fields-pack (w ∷ ws) (d ∷ ds) f =
     rw (pack-cons w d ws ds, fields-cons w ws (pack ws ds * 2 ^ w + d), digits_mod (pack ws ds) f.0, digits_div (pack ws ds) f.0)
     (ap (λ l. d ∷ l) (fields-pack ws ds f.1))
