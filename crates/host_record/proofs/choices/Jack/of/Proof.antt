@@ -1,8 +1,0 @@
--- `Jack::of` meets its contract: one arm for each code. Assumes nothing.
-use borrow.Author.Rules.{rules}
-use Rattle.host_record.proofs.Codes.{two-last}
-use Rattle.host_record.proofs.choices.Jack.of.Statement.{statement}
-use Rattle.host_record.proofs.choices.Jack.of.Tie as tie
-
-pub of_spec : {M : Type 1} → statement M
-of_spec = tie.close (tie.spec (λ c. search rules) (λ c. two-last _ _ _ c.match.rest))
