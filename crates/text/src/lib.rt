@@ -39,6 +39,7 @@ pub fn put(out: &mut [u8], at: usize, text: &[u8]) -> usize
 }
 
 // A number in decimal.
+#[tactic(auto, using(crate::proofs::Numbers::one_digit_lem))]
 pub fn decimal(out: &mut [u8], at: usize, n: u64) -> usize
     ensures { gave result out.new ≡ put_of out.old at (decimal_of n) }
 {
@@ -50,6 +51,7 @@ pub fn decimal(out: &mut [u8], at: usize, n: u64) -> usize
 }
 
 // A number in decimal, with a comma between groups of three digits.
+#[tactic(auto, using(crate::proofs::Numbers::no_comma))]
 pub fn number(out: &mut [u8], at: usize, n: u64) -> usize
     ensures { gave result out.new ≡ put_of out.old at (commas n) }
 {
