@@ -7,7 +7,7 @@ mod place;
 mod runs;
 
 ghost use Rattle.std.specs.Prelude.{◌≡◌, ◌<◌, ◌≤◌, length};
-ghost use Rattle.why.specs.Why.{why_of, reason_of, refused as refusedWith};
+ghost use Rattle.why.specs.Why.{why_of, reason_of, refused as refused_with};
 
 use place::{good_at, skipped};
 pub use runs::{Run, run_from};
@@ -79,7 +79,7 @@ pub(crate) fn followed(input: &[u8], asked: usize) -> Reason
 }
 
 pub(crate) fn refused(refusal: Answer) -> Why
-    ensures { result ≡ refusedWith refusal }
+    ensures { result ≡ refused_with refusal }
 {
     Why {
         answer: refusal,
