@@ -131,7 +131,7 @@ impl Stream {
 // Whether a record of these numbers and cells is one that a reading can have left. A damaged one may hold
 // any numbers, so the sum is taken only where it cannot wrap.
 pub fn is_sound(counts: Counts, held: &[u8]) -> bool
-    ensures { result ≡ sound_of (record { held = held.entry.now; count = counts.count; frames = counts.frames; skipped = counts.skipped; total = counts.total }) }
+    ensures { result ≡ sound_of (record { held = held.now; count = counts.count; frames = counts.frames; skipped = counts.skipped; total = counts.total }) }
 {
     let count = counts.count;
     if 514 < count {
@@ -157,7 +157,7 @@ pub fn is_sound(counts: Counts, held: &[u8]) -> bool
 
 // The answer to a call on a record of these numbers and cells, by the lengths of the piece and of the output.
 pub fn answer_of(counts: Counts, held: &[u8], piece: usize, output: usize) -> Answer
-    ensures { result ≡ first (refusals (record { held = held.entry.now; count = counts.count; frames = counts.frames; skipped = counts.skipped; total = counts.total }) piece output) }
+    ensures { result ≡ first (refusals (record { held = held.now; count = counts.count; frames = counts.frames; skipped = counts.skipped; total = counts.total }) piece output) }
 {
     if !is_sound(counts, held) {
         return Answer::BadState;
