@@ -16,10 +16,11 @@ need() {
     done
 }
 
-# The toolchain is there. Where it is another than the one with which all of this was proved, a line says so, once for a
-# command and all that it calls.
+# The toolchain is there, and this machine is of the kind that it is for. Where it is another than the one with which all
+# of this was proved, a line says so, once for a command and all that it calls.
 know_toolchain() {
     command -v rt >/dev/null 2>&1 || fail "the Rattle toolchain is missing: there is no 'rt' on the PATH"
+    [ "$(uname -m)" = x86_64 ] || fail "the Rattle toolchain is for x86-64, and this machine is $(uname -m)"
     here=$(rt version)
     known=$(cat "$home/toolchain")
     [ "$here" = "$known" ] || [ -n "${HPSDR_TOOLCHAIN_TOLD:-}" ] ||
@@ -28,10 +29,16 @@ know_toolchain() {
     export HPSDR_TOOLCHAIN_TOLD
 }
 
-# Where the toolchain's own compiler, emulator and C library for this machine stand.
+# Where the toolchain's own compiler and archiver stand.
 machine_tools() {
     rt=$(readlink -f "$(command -v rt)")
-    echo "${RATTLE_HOME:-$(cd "$(dirname "$rt")/.." && pwd -P)}/on/$(uname -m)/toolchain"
+    echo "$(cd "$(dirname "$rt")/.." && pwd -P)/toolchain/bin"
+}
+
+# What all that is built is made from: the toolchain and the sources.
+sources() {
+    rt version
+    (cd "$home" && find crates -type f -path 'crates/*/src/*' -exec sha256sum {} + | sort)
 }
 
 tell_beginning() {
@@ -39,24 +46,25 @@ tell_beginning() {
     told=yes
 }
 
-# Tells of the lines that rt prints those that say what it has proved in this run, as each comes.
+# Tells of the lines that rt prints which crates are proved in this run, as each is: the first line of a crate's check
+# names it, and the last one says that it is proved. Where nothing has changed there is neither.
 tell_crates() {
     while IFS= read -r line; do
         printf '%s\n' "$line"
         case $line in
-        'rt: '*' proved (unchanged '*) ;;
-        'rt: '*' proved ('*' s)')
+        'rt: chose --jobs '*)
             tell_beginning
-            say "${line#rt: }"
+            crate=${line##* }
+            began=$(date +%s)
             ;;
-        'rt: '*) ;;
-        *) tell_beginning ;;
+        'logic=proved '*) say "$crate proved ($(($(date +%s) - began)) s)" ;;
         esac
     done
 }
 
-# Runs rt in the repository, one command at a time. Only where it fails is all that it printed shown. It prints nothing
-# before its first crate is done, so for a crate that was never proved the beginning is told at once.
+# Runs rt in a crate's folder, one command at a time: `lib` makes a library, and `run` a program, which it then runs, here
+# on an empty input. Only where it fails is all that it printed shown. It prints nothing before its first crate's check
+# begins, so for a crate that was never built the beginning is told at once.
 build() { # RT-COMMAND CRATE
     need flock
     mkdir -p "$home/target"
@@ -64,23 +72,26 @@ build() { # RT-COMMAND CRATE
     told=
     (
         flock -w 2 9 || { say 'waiting for another command to build'; flock 9; }
-        [ -e "$home/target/stamp/$2" ] || tell_beginning
-        { (cd "$home" && rt "$1" "$2" 2>&1) </dev/null 9>&-; echo $? >"$log.status"; } | tell_crates >"$log"
-        [ "$(cat "$log.status")" = 0 ] || { cat "$log" >&2; exit 1; }
-    ) 9>"$home/target/lock" || fail "rt $* failed"
+        [ -e "$home/crates/$2/out" ] || tell_beginning
+        { (cd "$home/crates/$2" && rt "$1" 2>&1) </dev/null 9>&-; echo $? >"$log.status"; } | tell_crates >"$log"
+        is_built "$1" "$2" || { cat "$log" >&2; exit 1; }
+    ) 9>"$home/target/lock" || fail "rt $1 failed in crates/$2"
 }
 
-# Runs a program of the library. It is for x86-64; for other machines the toolchain has an emulator, with the loader and
-# the C library that the program needs.
+# The last command of rt did its work. The status of `run` is that of the program; that the program is there, it says in
+# the line before it runs it.
+is_built() { # RT-COMMAND CRATE
+    case $1 in
+    run) grep -q "^rt: running out/$2;" "$log" ;;
+    *) [ "$(cat "$log.status")" = 0 ] ;;
+    esac
+}
+
+# Runs a program of the library.
 run_program() { # NAME ARGUMENT...
-    program=$home/target/bin/$1
+    program=$home/crates/$1/out/$1
     shift
-    if [ "$(uname -m)" = x86_64 ]; then
-        "$program" "$@"
-    else
-        tools=$(machine_tools)
-        "$tools/bin/qemu-x86_64" "$tools/lib/ld-linux-x86-64.so.2" --library-path "$tools/lib" "$program" "$@"
-    fi
+    "$program" "$@"
 }
 
 # Runs a program with what it says on standard error kept in `said`. A program of Rattle has no status of its own to
