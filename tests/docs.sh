@@ -14,23 +14,23 @@ for path in $(grep -hoE '\b[a-z_]+/(src|specs|proofs)/[A-Za-z_]+(\.rt)?' $docume
 done
 
 # After a file of proofs, the names in backquotes up to the next word are its theorems.
-grep -hoE '[a-z_]+/proofs/[A-Z][A-Za-z]+( `[a-z0-9-]+`,?)+' docs/CLAIMS.md | while read -r path names; do
+grep -hoE '[a-z_]+/proofs/[A-Z][A-Za-z]+( `[a-z0-9_-]+`,?)+' docs/CLAIMS.md | while read -r path names; do
     for name in $(echo "$names" | tr -d '`,'); do
         grep -qE "^ *pub $name\b" "crates/$path.antt" || echo "crates/$path.antt has no theorem $name" >>"$faults"
     done
 done
 
-# The last column of a row of contracts names edits, of the row's crate or of the crate named before them.
+# The last column of a row of contracts names edits and theorems, of the row's crate or of the crate named before them.
 awk -F ' [|] ' '/^[|] [a-z_]+ [|]/ && NF == 5 {
     count = split($5, parts, ";")
     for (part = 1; part <= count; part++) print substr($1, 3), parts[part]
 }' docs/CONTRACTS.md | tr -d ',|' | while read -r crate words; do
     for word in $words; do
         case $word in
-        \`*-*\`) ;; # a theorem
         \`*\`)
             edit=$(echo "$word" | tr -d '`')
-            [ -f "crates/$crate/must-fail/$edit.edit" ] || echo "docs/CONTRACTS.md: $crate has no edit $edit" >>"$faults"
+            [ -f "crates/$crate/must-fail/$edit.edit" ] || grep -qE "^ *pub $edit\b" "crates/$crate/proofs"/*.antt ||
+                echo "docs/CONTRACTS.md: $crate has no edit and no theorem $edit" >>"$faults"
             ;;
         *) [ ! -d "crates/$word" ] || crate=$word ;;
         esac
