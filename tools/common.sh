@@ -65,17 +65,18 @@ tell_crates() {
 # Runs rt in a crate's folder, one command at a time: `lib` makes a library, and `run` a program, which it then runs, here
 # on an empty input. Only where it fails is all that it printed shown. It prints nothing before its first crate's check
 # begins, so for a crate that was never built the beginning is told at once.
-build() { # RT-COMMAND CRATE
+build() { # RT-COMMAND CRATE FLAG...
     need flock
     mkdir -p "$home/target"
     log=$home/target/build.log
-    told=
+    told= command=$1 crate=$2
+    shift 2
     (
         flock -w 2 9 || { say 'waiting for another command to build'; flock 9; }
-        [ -e "$home/crates/$2/out" ] || tell_beginning
-        { (cd "$home/crates/$2" && rt "$1" 2>&1) </dev/null 9>&-; echo $? >"$log.status"; } | tell_crates >"$log"
-        is_built "$1" "$2" || { cat "$log" >&2; exit 1; }
-    ) 9>"$home/target/lock" || fail "rt $1 failed in crates/$2"
+        [ -e "$home/crates/$crate/out" ] || tell_beginning
+        { (cd "$home/crates/$crate" && rt "$command" "$@" 2>&1) </dev/null 9>&-; echo $? >"$log.status"; } | tell_crates >"$log"
+        is_built "$command" "$crate" || { cat "$log" >&2; exit 1; }
+    ) 9>"$home/target/lock" || fail "rt $command failed in crates/$crate"
 }
 
 # The last command of rt did its work. The status of `run` is that of the program; that the program is there, it says in
