@@ -31,6 +31,7 @@ pub fn within(most: &[u32], cells: &[u32]) -> bool
 }
 
 // Writes fields over the cells from a place on, where there are enough of them.
+#[tactic(auto, using(crate::proofs::Cases::put_few))]
 pub fn put(cells: &mut [u32], place: usize, fields: &[u32])
     ensures { cells.new ≡ put_over cells.old place fields.now }
 {
