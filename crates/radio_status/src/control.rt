@@ -9,6 +9,7 @@ use wire::sync::put_header;
 
 // Sync and C0 to C4 over the start of a frame. With a version above 127, a level above 4,095 or a word number
 // above 4, the frame is left as it is, and so is one with no room for them.
+#[tactic(auto, using(crate::proofs::HeaderCases::unwritable, crate::proofs::HeaderCases::bad_word))]
 pub fn write_header(status: Status, word: u8, frame: &mut [u8])
     ensures { frame.new ≡ header_over status word frame.old }
 {
