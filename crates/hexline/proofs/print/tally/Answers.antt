@@ -1,0 +1,15 @@
+-- `print::tally` meets its contract: three labels, each with its number, and the newline. Assumes nothing.
+use Rattle.hexline.proofs.Tallied.{tally_short, tally_whole}
+use Rattle.hexline.specs.Tally.{tally_text}
+use Rattle.text.proofs.Puts.{and_then}
+use Rattle.hexline.proofs.print.tally.Goals as goal
+
+pub returns-then-out-lt-TALLY : goal.returns-then-out-lt-TALLY
+returns-then-out-lt-TALLY c = tally_short _ _ _ _ c.if-out-lt-TALLY.true
+
+pub returns : goal.returns
+unfolding tally_text
+returns c =
+    let fits = c.ranges in
+    tally_whole _ _ _ _ c.if-out-lt-TALLY.false fits.frames.fits fits.skipped.fits fits.held.fits
+    (and_then _ _ _ _ (and_then _ _ _ _ (and_then _ _ _ _ c.labelled-first.ensures c.labelled-second.ensures) c.labelled-third.ensures) c.byte.ensures)
