@@ -22,6 +22,7 @@ pub fn byte(out: &mut [u8], at: usize, b: u8) -> usize
 }
 
 // A text.
+#[tactic(auto, using(crate::proofs::Puts::put_full))]
 pub fn put(out: &mut [u8], at: usize, text: &[u8]) -> usize
     ensures { gave result out.new ≡ put_of out.old at text.now }
 {
