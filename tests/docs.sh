@@ -1,12 +1,14 @@
 #!/bin/sh
 # Holds the documents to the repository: every crate's file that they name is there, a theorem named beside a file of
 # proofs stands in it, every must-fail edit of docs/CONTRACTS.md is in the crate that it says, and each edit is named there.
+# Each name in backquotes in the documents on the rooms, the claims and the contracts is a word of the repository.
 # POSIX sh, awk, grep and sed.
 set -eu
 cd "$(dirname "$0")/.."
 documents='README.md docs/ARCHITECTURE.md docs/CLAIMS.md docs/CONTRACTS.md docs/DECISIONS.md'
 faults=$(mktemp)
-trap 'rm -f "$faults"' EXIT
+words=$(mktemp)
+trap 'rm -f "$faults" "$words"' EXIT
 
 # CRATE/src/FILE as it stands, CRATE/specs/FILE and CRATE/proofs/FILE without their ending.
 for path in $(grep -hoE '\b[a-z_]+/(src|specs|proofs)/[A-Za-z_]+(\.rt)?' $documents | sort -u); do
@@ -39,6 +41,17 @@ done
 for file in crates/*/must-fail/*.edit; do
     grep -q "\`$(basename "$file" .edit)\`" docs/CONTRACTS.md || echo "docs/CONTRACTS.md does not name $file" >>"$faults"
 done
+
+# Names are letters, digits, _, ' and -. A path is no name, nor is the end of one, as `_cells`.
+names() {
+    LC_ALL=C tr -cs "A-Za-z0-9_'-" '\n' | LC_ALL=C sort -u
+}
+files() {
+    find crates include rust examples tests \( -name out -o -name target \) -prune -o -type f -print
+}
+{ files && files | tr '\n' '\0' | xargs -0 cat; } | names >"$words"
+grep -hoE '`[^`]+`' docs/ARCHITECTURE.md docs/CLAIMS.md docs/CONTRACTS.md | grep -v -e / -e '^`_' | names |
+    LC_ALL=C comm -23 - "$words" | sed -n 's/^./there is nothing of the name &/p' >>"$faults"
 if [ -s "$faults" ]; then
     sed 's/^/tests\/docs.sh: /' "$faults" >&2
     exit 1

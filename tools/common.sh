@@ -69,7 +69,9 @@ build() { # RT-COMMAND CRATE FLAG...
     need flock
     mkdir -p "$home/target"
     log=$home/target/build.log
-    told= command=$1 crate=$2
+    told=
+    command=$1
+    crate=$2
     shift 2
     (
         flock -w 2 9 || { say 'waiting for another command to build'; flock 9; }
