@@ -97,8 +97,8 @@ run_program() { # NAME ARGUMENT...
     "$program" "$@"
 }
 
-# Runs a program with what it says on standard error kept in `said`. A program of Rattle has no status of its own to
-# give: by what it says the caller tells whether it did its work.
+# Runs a program with what it says on standard error kept in `said`. The programs give no status of their own: by what
+# one says the caller tells whether it did its work.
 hear_program() { # NAME ARGUMENT...
     exec 3>&1
     status=0
