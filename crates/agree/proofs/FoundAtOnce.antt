@@ -11,7 +11,7 @@ use Rattle.plain.proofs.Cases.{accepted_passes}
 use Rattle.stream.specs.Clear.{Clear, Found, FoundOrOverlapped}
 use Rattle.stream.specs.Record.{fresh_of}
 use Rattle.stream.specs.Run.{Call, AllAccepted, pieces, handed_out}
-use Rattle.stream.proofs.FoundAgain.{found_however_cut, lost_however_cut}
+use Rattle.stream.proofs.FoundHoweverCut.{found_however_cut, lost_however_cut}
 use Rattle.agree.proofs.PlainAndQuick.{plain_agrees_with_quick, every_input_has_a_cutting}
 
 -- of each input that the plain reader accepts

@@ -1,5 +1,5 @@
 -- T-13: what is found after a false match, in an input of any content. Assumes nothing.
-use mathlib.Core.Path.{◌≡◌, sym, ap, ◌∙◌, subst}
+use mathlib.Core.Path.{◌≡◌, sym, ap, ◌∙◌}
 use mathlib.Core.Logic.{◌⊎◌, inl, inr, ⊎_elim}
 use mathlib.Core.Bool.{true, true≢false}
 use mathlib.Core.List.{List, ◌++◌, append_assoc}
@@ -12,10 +12,7 @@ use Rattle.reading.proofs.Readings.{good-drop, good-long, counted}
 use Rattle.reading.proofs.UpTo.{comes_then, comes_or_goes_past}
 use Rattle.reading.specs.Reading.{good, ◌and_then◌, reading}
 use Rattle.reading.specs.UpTo.{up_to, Comes, GoesPast}
-use Rattle.stream.proofs.Cut.{however_cut}
 use Rattle.stream.specs.Clear.{Clear, Found, FoundOrOverlapped}
-use Rattle.stream.specs.Record.{fresh_of}
-use Rattle.stream.specs.Run.{Call, AllAccepted, pieces, handed_out}
 
 -- good frames in a row from a place that the reading comes to
 found : (s : List ℕ) (p b : ℕ) → Comes s p → ((j : ℕ) → j < b → good s (p + 512 * j) ≡ true) → Found s p b (reading s).handed
@@ -53,17 +50,6 @@ pub lost_to_one_before : (s : List ℕ) (p : ℕ) → good s p ≡ true → Foun
 lost_to_one_before s p here =
     ⊎_elim (λ comes. inl (found_one s p comes here)) (λ past. inr (past, found_one s past.start past.comes past.begins))
     (at-good s p here)
-
--- Both hold of what a fresh stream hands out, for every list of pieces that the input is cut into and that are accepted, with any lent outputs.
-module _ (s : List ℕ) (calls : List Call) (cut : pieces calls ≡ s) (accepted : AllAccepted fresh_of calls) where
-  read_in_pieces : (reading s).handed ≡ handed_out fresh_of calls
-  read_in_pieces = sym ((however_cut calls accepted).0 ∙ ap (λ l. (reading l).handed) cut)
-
-  pub found_however_cut : (p b : ℕ) → Clear 511 s p b → Found s p b (handed_out fresh_of calls)
-  found_however_cut p b clear = subst (Found s p b) read_in_pieces (found_again s p b clear)
-
-  pub lost_however_cut : (p : ℕ) → good s p ≡ true → FoundOrOverlapped s p (handed_out fresh_of calls)
-  lost_however_cut p here = subst (FoundOrOverlapped s p) read_in_pieces (lost_to_one_before s p here)
 
 -- Where a caller finds them: behind as many frames as the first p + 514 bytes give stand the b frames from p on.
 pub where_they_stand : (n : ℕ) (s : List ℕ) (p b : ℕ) (handed : List ℕ) → Clear n s p b → Found s p b handed → take (512 * b) (drop (512 * (up_to p s).frames) handed) ≡ take (512 * b) (drop p s)

@@ -12,4 +12,5 @@ pub mod Resync
 pub mod Place
 pub mod Settled
 pub mod FoundAgain
+pub mod FoundHoweverCut
 pub mod NoFewer
