@@ -1,6 +1,6 @@
 -- A record that no test of its ranges refuses, and `begun` where a word can be sent and where not. Assumes nothing.
 use mathlib.Core.Path.{◌≡◌, refl, ap, ◌∙◌}
-use mathlib.Core.Bool.{◌&&◌, and-false}
+use mathlib.Core.Bool.{and-false}
 use mathlib.Core.List.{List, ◌++◌}
 use Prim.Native.Nat.{ℕ, ◌+◌, ◌<◌, ◌≤◌}
 use native.Mathlib.Omega.{arith}
