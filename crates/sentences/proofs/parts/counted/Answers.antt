@@ -1,0 +1,12 @@
+-- `parts::counted` meets its contract: the number, and one of the two words. Assumes nothing.
+use borrow.Author.Tests.{eq-eqb, ne_eqb}
+use Rattle.text.proofs.Puts.{and_then}
+use Rattle.sentences.proofs.parts.counted.Goals as goal
+
+pub returns-then-n-eq1 : goal.returns-then-n-eq1
+returns-then-n-eq1 c =
+    rw (eq-eqb _ _ c.if-n-eq1.true) (and_then _ _ _ _ c.number-next.ensures c.put.ensures)
+
+pub returns : goal.returns
+returns c =
+    rw (ne_eqb _ _ c.if-n-eq1.false) (and_then _ _ _ _ c.number-next.ensures c.put-2.ensures)
