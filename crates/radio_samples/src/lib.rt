@@ -45,6 +45,7 @@ pub(crate) enum Fit {
 
 // The row of a count of 1 to 8, where slices of these lengths hold a frame's samples and as many bytes are there
 // as are due.
+#[tactic(auto, unfolding(crate::specs::Samples::roomy))]
 pub(crate) fn fitting(receivers: usize, iq: usize, mic: usize, bytes: usize, due: usize) -> Fit
     ensures { result ≡ fit receivers iq mic bytes due }
 {
