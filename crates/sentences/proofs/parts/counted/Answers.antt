@@ -1,4 +1,5 @@
 -- `parts::counted` meets its contract: the number, and one of the two words. Assumes nothing.
+use native.Mathlib.Omega.{arith}
 use borrow.Author.Tests.{eq-eqb, ne_eqb}
 use Rattle.text.proofs.Puts.{and_then}
 use Rattle.sentences.proofs.parts.counted.Goals as goal
@@ -9,4 +10,4 @@ returns-then-n-eq1 c =
 
 pub returns : goal.returns
 returns c =
-    rw (ne_eqb _ _ c.if-n-eq1.false) (and_then _ _ _ _ c.number-next.ensures c.put-2.ensures)
+    rw (ne_eqb c.args.n 1 (λ one. omega arith)) (and_then _ _ _ _ c.number-next.ensures c.put-2.ensures)

@@ -1,4 +1,6 @@
 -- `parts::subject` meets its contract: one place, or the first and the last. Assumes nothing.
+use Prim.Native.Nat.{◌-◌}
+use native.Mathlib.Omega.{arith}
 use borrow.Author.Tests.{eq-eqb, ne_eqb}
 use mathlib.Core.Path.{sym, ◌∙◌}
 use Rattle.text.proofs.Puts.{and_then}
@@ -10,5 +12,5 @@ returns-then-minus-eq1 c =
 
 pub returns : goal.returns
 returns c =
-    rw (ne_eqb _ _ (λ one. c.if-minus-eq1.false (c.minus.ensures ∙ one)), ← c.minus-2.ensures)
+    rw (ne_eqb (c.args.end - c.args.start) 1 (λ one. omega arith), ← c.minus-2.ensures)
     (and_then _ _ _ _ (and_then _ _ _ _ c.labelled-first.ensures c.labelled-last.ensures) c.put-2.ensures)
