@@ -1,13 +1,14 @@
 -- One read's bytes: what the stream's call and the lines of its frames leave, and that they stay inside the text. Assumes nothing.
-use mathlib.Core.Path.{◌≡◌, refl, ap, ◌∙◌}
+use mathlib.Core.Path.{◌≡◌, refl, sym, ap, ◌∙◌}
 use mathlib.Core.Bool.{Bool, true, false, cond}
 use mathlib.Core.List.{List}
 use Prim.Native.Nat.{ℕ, ◌+◌, ◌^◌, ◌≤◌}
+use Rattle.std.specs.Prelude.{min}
 use native.Mathlib.Omega.{arith}
 use lib.Dec.{leb, eqb}
-use lib.IntN.{ℤ}
-use lib.ListN.{length, length-take}
-use Rattle.io.specs.Counts.{clamp_len}
+use lib.ListN.{length, take, length-take}
+use lib.Seq.{take_all}
+use Rattle.wire.proofs.Cases.{by_order}
 use Rattle.wire.specs.Answers.{number_of}
 use Rattle.wire.specs.declared.Answer.TheVariants.{Accepted, StreamFull}
 use Rattle.stream.specs.Feed.{Outcome, feed_of, gave as fed_with}
@@ -25,8 +26,15 @@ use Rattle.framing.specs.Pass.{bytes_read, Passes}
 use Rattle.framing.specs.declared.Passing.{Passing}
 use Rattle.framing.proofs.OnlyFull.{only_full}
 
-pub bytes_few : (got : ℤ) (piece : List ℕ) → length piece ≤ 4096 → length (bytes_read got piece) ≤ 4096
-bytes_few got piece short = omega (arith, length-take (clamp_len got (length piece)) piece)
+-- a read that says more than its piece has gave the piece
+pub all_of_a_piece : (n got : ℕ) (piece : List ℕ) → n ≡ min (length piece) got → take n piece ≡ bytes_read got piece
+all_of_a_piece n got piece is =
+    by_order (length piece) got
+    (λ over. take_all n piece (omega (arith, is)) ∙ sym (take_all got piece (omega arith)))
+    (λ within. let same : n ≡ got = omega (arith, is) in ap (λ k. take k piece) same)
+
+pub bytes_few : (got : ℕ) (piece : List ℕ) → length piece ≤ 4096 → length (bytes_read got piece) ≤ 4096
+bytes_few got piece short = omega (arith, length-take got piece)
 
 either_answer : (b : Bool) → eqb (number_of (cond b Accepted StreamFull)) 0 ≡ b
 either_answer true = refl

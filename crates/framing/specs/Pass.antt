@@ -1,6 +1,7 @@
 -- What the bytes of one read of the input make of the stream's record and of the text. Assumes nothing.
-use Rattle.std.specs.Prelude.{ℕ, ◌+◌, ◌^◌, ◌≤◌, ◌≡◌, List, leb, ℤ, length, take}
-use Rattle.io.specs.Counts.{clamp_len}
+use Rattle.std.specs.Prelude.{ℕ, ◌+◌, ◌^◌, ◌≤◌, ◌≡◌, List, leb, length, take}
+use Rattle.std.specs.Io.KnownBytes.{Consumes, Appends}
+use Rattle.std.specs.declared.option.Option.{Option}
 use Rattle.stream.specs.Feed.{feed_of}
 use Rattle.stream.specs.declared.Stream.{Stream}
 use Rattle.text.specs.Put.{gave, written}
@@ -14,8 +15,8 @@ pub record Buffers (piece frames text : List ℕ) : Type 0 where
   pub wide : 8200 ≤ length text
 
 -- the bytes that a read gave, by what it answered
-abbrev pub bytes_read : ℤ → List ℕ → List ℕ
-bytes_read got piece = take (clamp_len got (length piece)) piece
+abbrev pub bytes_read : ℕ → List ℕ → List ℕ
+bytes_read got piece = take got piece
 
 -- the bytes are passed on: the next record is the call's, the lines of its frames wait at the start of the text, and there is more to do
 -- unless they make more than 2^48
@@ -26,5 +27,13 @@ pub record Passes (given : Stream) (bytes frames text : List ℕ) (next : Passin
 
 -- so are the bytes of some read, which stand at the start of the piece as it returns
 pub record PassesSome (given : Stream) (piece frames text : List ℕ) (next : Passing) (after : List ℕ) : Type 0 where
-  pub got : ℤ
+  pub got : ℕ
   pub passes : Passes given (bytes_read got piece) frames text next after
+
+-- and where the bytes are known that the input has left and that the output holds, those bytes are the input's next ones, and the output has
+-- the text that waited
+pub record PassesOn (coming left had has : Option (List ℕ)) (given : Stream) (piece frames text : List ℕ) (next : Passing) (after : List ℕ) : Type 0 where
+  pub got : ℕ
+  pub passes : Passes given (bytes_read got piece) frames text next after
+  pub reads : Consumes coming left (bytes_read got piece)
+  pub writes : Appends had has (take next.waiting after)
