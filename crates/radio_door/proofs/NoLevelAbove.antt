@@ -1,10 +1,9 @@
 -- T-08, through the door: cells without a level above 4,095 keep having none, and those of a fresh record have none. Assumes nothing.
-use mathlib.Core.Path.{◌≡◌, refl, ap, subst⁻¹, ◌∙◌}
-use mathlib.Core.Bool.{true}
+use mathlib.Core.Path.{subst⁻¹}
 use mathlib.Core.List.{List}
-use Prim.Native.Nat.{ℕ, ◌≤◌, ◌<◌}
+use Prim.Native.Nat.{ℕ, ◌≤◌}
 use native.Mathlib.Omega.{arith}
-use borrow.Author.Tests.{eq-eqb, ne_eqb, le-ltb}
+use borrow.Author.Tests.{le-ltb}
 use lib.IntN.{ℤ}
 use lib.ListN.{length}
 use lib.Seq.{sets}
@@ -16,7 +15,7 @@ use Rattle.radio_status.specs.Record.{fresh_status}
 use Rattle.radio_status.specs.declared.record.Status.{Status}
 use Rattle.radio.specs.Read as Read
 use Rattle.radio.proofs.NoLevelAbove.{levels_stay, fresh_leveled}
-use Rattle.cells.specs.Cells.{within, kept, Written, offered}
+use Rattle.cells.specs.Cells.{within, offered}
 use Rattle.cells.proofs.Back.{over}
 use Rattle.cells.proofs.Cases.{enough}
 use Rattle.radio_door.specs.Status.{status_most, status_of, status_cells, LeveledCells}

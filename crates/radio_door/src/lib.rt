@@ -91,6 +91,7 @@ pub fn status_fresh(status: &mut [u32]) -> u32
 }
 
 // The row of a number of receivers: a slot's bytes, the slots of a frame, the bytes of padding.
+#[tactic(auto, using(crate::proofs::LayoutCases::layout_few))]
 pub fn layout_row(receivers: usize, row: &mut [u32]) -> u32
     ensures { wrote result row.new ≡ layout_of receivers row.old }
 {

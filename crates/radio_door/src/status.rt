@@ -15,6 +15,7 @@ pub const MOST: [u32; 26] = [
 ];
 
 // The record that the cells are; too few of them give a fresh one.
+#[tactic(auto, using(crate::proofs::StatusCases::status_few, crate::proofs::StatusCases::status_held))]
 pub fn status_in(cells: &[u32]) -> Status
     ensures { result ≡ status_in cells.now }
 {
