@@ -17,11 +17,12 @@ need() {
 }
 
 # The toolchain is there, and this machine is of the kind that it is for. Where it is another than the one with which all
-# of this was proved, a line says so, once for a command and all that it calls.
+# of this was proved, a line says so, once for a command and all that it calls. (`rt` gives up on a standard input that is a
+# folder, and never gets a command's.)
 know_toolchain() {
     command -v rt >/dev/null 2>&1 || fail "the Rattle toolchain is missing: there is no 'rt' on the PATH"
     [ "$(uname -m)" = x86_64 ] || fail "the Rattle toolchain is for x86-64, and this machine is $(uname -m)"
-    here=$(rt version)
+    here=$(rt version </dev/null)
     known=$(cat "$home/toolchain")
     [ "$here" = "$known" ] || [ -n "${HPSDR_TOOLCHAIN_TOLD:-}" ] ||
         say "the toolchain is '$here'; all of this was proved with '$known'. Going on"
@@ -37,7 +38,7 @@ machine_tools() {
 
 # What all that is built is made from: the toolchain and the sources.
 sources() {
-    rt version
+    rt version </dev/null
     (cd "$home" && find crates -type f -path 'crates/*/src/*' -exec sha256sum {} + | sort)
 }
 
