@@ -1,5 +1,5 @@
-// `update` as C and Rust call it, under a plain name. The record and the structs in it are `#[repr(C)]`, so
-// that a caller declares them again.
+// `update` as C and Rust call it, under a plain name, which the crate `radio_c` gives it in an archive. The record and
+// the structs in it are `#[repr(C)]`, so that a caller declares them again.
 ghost use Rattle.std.specs.Prelude.{◌≡◌};
 ghost use Rattle.wire.specs.Answers.{told};
 ghost use Rattle.radio.specs.Read.{read_of};
@@ -9,8 +9,7 @@ use crate::Updated;
 use radio_status::record::Status;
 
 // An update that answers by number: 0 to 9 in bits 7 to 0, and the place in bits 31 to 16.
-#[unsafe(no_mangle)]
-pub extern "C" fn radio_update(
+pub fn radio_update(
     frame: &[u8],
     receivers: usize,
     iq: &mut [i32],

@@ -8,7 +8,7 @@
 // A write settles every byte of the frame.
 #![tactic(auto)]
 
-mod export;
+pub mod export;
 
 ghost use Rattle.std.specs.Prelude.{◌≡◌, ◌+◌, ◌≤◌, length, drop};
 ghost use Rattle.wire.specs.Places.{first_other};
