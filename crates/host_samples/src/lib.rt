@@ -12,6 +12,7 @@ ghost use Rattle.host_samples.specs.Samples.{pair_of, slot_number, pairs_from, w
 use wire::numbers::{bytes_of_sample16, sample16};
 
 // Whether so many bytes are a payload, and so many numbers enough for one.
+#[tactic(auto, unfolding(crate::specs::Samples::whole))]
 pub(crate) fn whole(bytes: usize, numbers: usize) -> bool
     ensures { result ≡ whole bytes numbers }
 {
