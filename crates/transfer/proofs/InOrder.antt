@@ -10,7 +10,7 @@ use lib.ListN.{length, drop, drop_of_length-le}
 use lib.Seq.{drop-cons}
 use Rattle.wire.specs.Answers.{accepts}
 use Rattle.wire.proofs.Lists.{length-tab, get_or-tab}
-use Rattle.transfer.specs.Transfer.{Outcome, gave, count, frame_at, frames_in, single, one_more, one_by_one}
+use Rattle.transfer.specs.Transfer.{Outcome, gave, count, frame_at, frames_in, one_more, one_by_one}
 use Rattle.transfer.specs.declared.Transfer.{Transfer}
 
 module _ (n : ℕ) (frame : List ℕ) (frames : List (List ℕ)) (o next : Outcome) (read : next ≡ one_more n o frame) where

@@ -11,7 +11,7 @@ use Rattle.radio_status.specs.Control.{Leveled}
 use Rattle.radio_status.specs.declared.record.Status.{Status}
 use Rattle.radio.proofs.NoLevelAbove.{levels_stay}
 use Rattle.transfer.specs.SingleReads.{Standing, single_reads}
-use Rattle.transfer.specs.Transfer.{Outcome, frame_at, transfer_of}
+use Rattle.transfer.specs.Transfer.{frame_at, transfer_of}
 use Rattle.transfer.proofs.SingleReads.{equals_single_reads, by_begun}
 
 module _ (input : List ℕ) (small : Bytes input) (n : ℕ) (given : Standing) (leveled : Leveled given.status) where

@@ -1,6 +1,6 @@
 -- What a single read leaves of what it was lent: a refused one all of it, and any one what stands behind a frame's values. Assumes nothing.
 use mathlib.Core.Path.{◌≡◌, refl, subst⁻¹}
-use mathlib.Core.Bool.{true, false, true≢false}
+use mathlib.Core.Bool.{false, true≢false}
 use mathlib.Core.List.{List}
 use Prim.Native.Nat.{ℕ, ◌≤◌}
 use lib.IntN.{ℤ}

@@ -59,6 +59,7 @@ fn none_read(answer: Answer, status: Status) -> Transfer
 }
 
 // The first test of the whole that holds.
+#[tactic(auto, using(layout::proofs::Lookup::found, crate::proofs::Cases::left_over, crate::proofs::Cases::no_frame_lem, crate::proofs::Cases::many_frames_lem, crate::proofs::Cases::wrong_length))]
 pub(crate) fn refusal(bytes: usize, receivers: usize, iq: usize, mic: usize) -> Answer
     ensures { result ≡ answer_of bytes receivers iq mic }
 {
@@ -124,7 +125,7 @@ pub(crate) fn one_more(
     iq: &mut [i32],
     mic: &mut [i16],
 ) -> Transfer
-    requires values_value { (values ≡ values_of receivers) × (slots ≡ slots_of receivers) × (done.frames < count (length input.now)) }
+    requires one_frame { (values ≡ values_of receivers) × (slots ≡ slots_of receivers) × (done.frames < count (length input.now)) }
     requires ready { Ready (count (length input.now)) receivers (length input.now) (length iq.old) (length mic.old) }
     ensures { gave result iq.new mic.new ≡ one_more receivers (gave done iq.old mic.old) (frame_at input.now done.frames) }
 {
