@@ -42,7 +42,7 @@ for file in crates/*/must-fail/*.edit; do
     grep -q "\`$(basename "$file" .edit)\`" docs/CONTRACTS.md || echo "docs/CONTRACTS.md does not name $file" >>"$faults"
 done
 
-# Names are letters, digits, _, ' and -. A path is no name, nor is the end of one, as `_cells`.
+# Names are letters, digits, _, ' and -. A path and a file are no names, nor is the end of one, as `_cells`.
 names() {
     LC_ALL=C tr -cs "A-Za-z0-9_'-" '\n' | LC_ALL=C sort -u
 }
@@ -50,7 +50,7 @@ files() {
     find crates include rust examples tests \( -name out -o -name target \) -prune -o -type f -print
 }
 { files && files | tr '\n' '\0' | xargs -0 cat; } | names >"$words"
-grep -hoE '`[^`]+`' docs/ARCHITECTURE.md docs/CLAIMS.md docs/CONTRACTS.md | grep -v -e / -e '^`_' | names |
+grep -hoE '`[^`]+`' docs/ARCHITECTURE.md docs/CLAIMS.md docs/CONTRACTS.md | grep -v -e / -e '[.][a-z]*`$' -e '^`_' | names |
     LC_ALL=C comm -23 - "$words" | sed -n 's/^./there is nothing of the name &/p' >>"$faults"
 if [ -s "$faults" ]; then
     sed 's/^/tests\/docs.sh: /' "$faults" >&2
