@@ -23,7 +23,7 @@ use Rattle.host_turn.proofs.Assigned.{assigned}
 use Rattle.host_turn.proofs.BitTrip.{c0_again}
 use Rattle.host_turn.proofs.ByteTrip.{ByteControl, four_bytes, bytes_again}
 use Rattle.host_turn.proofs.WordTrip.{Held}
-use Rattle.host.specs.Build.{build_of, accepted, frame_of, moved}
+use Rattle.host.specs.Build.{build_of, frame_of, moved}
 use Rattle.host.specs.Read.{control_of, read_of}
 use Rattle.host_record.specs.Record.{Same, Seven}
 use Rattle.host_samples.specs.Samples.{payload_of, payload_from, number, numbers}

@@ -33,6 +33,8 @@ Each R (w ∷ ws) (x ∷ xs) = R w x × Each R ws xs
 
 pub each : (R S : ℕ → Call → Type 0) → ((w : ℕ) (x : Call) → R w x → S w x) → (ws : List ℕ) (xs : List Call) → Each R ws xs → Each S ws xs
 each R S turn [] [] r = tt
+each R S turn [] (x ∷ xs) r = elim r [ ]
+each R S turn (w ∷ ws) [] r = elim r [ ]
 each R S turn (w ∷ ws) (x ∷ xs) r = (turn w x r.0, each R S turn ws xs r.1)
 
 abbrev pub among : ℕ → List ℕ → Bool
@@ -47,6 +49,8 @@ module _ (h : Host) where
   -- what no such frame undoes holds at the end
   through : (P : Host → Type 0) → ((w : ℕ) (x : Call) (g : Host) → Says h w x → P g → P (after (control_of x.frame) g)) → (ws : List ℕ) (xs : List Call) (g : Host) → Each (Says h) ws xs → P g → P (reads xs g)
   through P step [] [] g said p = p
+  through P step [] (x ∷ xs) g said p = elim said [ ]
+  through P step (w ∷ ws) [] g said p = elim said [ ]
   through P step (w ∷ ws) (x ∷ xs) g said p =
       through P step ws xs (read_of x.frame x.audio g).host said.1 (subst⁻¹ P (left x g said.0.good) (step w x g said.0 p))
 
@@ -56,6 +60,8 @@ module _ (h : Host) where
 
   keyed_at_end : (w : ℕ) (ws : List ℕ) (xs : List Call) (g : Host) → Each (Says h) ws xs → among w ws ≡ true → (reads xs g).mox ≡ h.mox
   keyed_at_end w [] [] g said e = absurd (true≢false (sym e))
+  keyed_at_end w [] (x ∷ xs) g said e = elim said [ ]
+  keyed_at_end w (v ∷ ws) [] g said e = elim said [ ]
   keyed_at_end w (v ∷ ws) (x ∷ xs) g said e =
       through (λ k. k.mox ≡ h.mox) (λ u y k one had. keyed u y k one) ws xs (read_of x.frame x.audio g).host said.1 (ap (λ k. k.mox) (left x g said.0.good) ∙ keyed v x g said.0)
 
@@ -79,6 +85,8 @@ module _ (h : Host) where
 
   gained : (w : ℕ) (ws : List ℕ) (xs : List Call) (g : Host) → Each (Says h) ws xs → Seven g → among w ws ≡ true → Done w (reads xs g)
   gained w [] [] g said long e = absurd (true≢false (sym e))
+  gained w [] (x ∷ xs) g said long e = elim said [ ]
+  gained w (v ∷ ws) [] g said long e = elim said [ ]
   gained w (v ∷ ws) (x ∷ xs) g said long e =
       let next = left x g said.0.good in
       by_test (eqb w v)
