@@ -38,6 +38,14 @@ module _ (input : List ℕ) (place : ℕ) (out : List ℕ) (why : Why) (is : why
       let refused : accepts (why_of input place).answer ≡ false = ap (λ (w : Why). accepts w.answer) (sym is) ∙ ne_eqb _ 0 other in
       (past_inside (length input) out r after said, rw (refused, said))
 
+-- the same for a number that the call answered
+module _ (input : List ℕ) (place : ℕ) (out : List ℕ) (why : Why) (n : ℕ) (is : why ≡ why_of input place) (number : n ≡ number_of why.answer) {after : List ℕ} {r : ℕ} where
+  pub reason_told : n ≡ 0 → gave r after ≡ shown_of input place why.reason out → told_in (record { count = r; answer = true }) after ≡ place_told input place out
+  reason_told zero said = (reason-said input place out why is (sym number ∙ zero) said).1
+
+  pub none_told : (n ≡ 0 → ⊥) → gave r after ≡ past_end_of (length input) out → told_in (record { count = r; answer = false }) after ≡ place_told input place out
+  none_told other said = (none_said input place out why is (λ zero. other (number ∙ zero)) said).1
+
 -- ---- a run
 
 module _ (input : List ℕ) (start : ℕ) (out : List ℕ) where

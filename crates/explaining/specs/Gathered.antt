@@ -1,7 +1,8 @@
 -- The bytes of the input, one read after another. Assumes nothing.
-use Rattle.std.specs.Prelude.{ℕ, ◌+◌, ◌≡◌, true, false, cond, List, ltb, ℤ, length, take}
+use Rattle.std.specs.Prelude.{ℕ, ◌+◌, ◌≡◌, true, false, cond, List, ◌++◌, ltb, length, take}
+use Rattle.std.specs.Io.KnownBytes.{Consumes}
+use Rattle.std.specs.declared.option.Option.{Option}
 use Rattle.std.proofs.lemmas.List.Edits.{sets}
-use Rattle.io.specs.Counts.{clamp_len}
 use Rattle.explaining.specs.declared.Gathered.{Gathered}
 
 -- what is gathered, and the buffer that has it at its start
@@ -20,5 +21,9 @@ appended count bytes input =
 
 -- so do the bytes of some read, which stand at the start of the chunk as it returns
 pub record AppendsSome (count : ℕ) (chunk input : List ℕ) (next : Gathered) (after : List ℕ) : Type 0 where
-  pub got : ℤ
-  pub appends : kept next after ≡ appended count (take (clamp_len got (length chunk)) chunk) input
+  pub got : ℕ
+  pub appends : kept next after ≡ appended count (take got chunk) input
+
+-- of the bytes that are to come, where those are known, the next ones went behind the bytes before
+abbrev pub Gathers : Option (List ℕ) → List ℕ → Option (List ℕ) → List ℕ → Type 0
+Gathers coming before left after = (bytes : List ℕ) × Consumes coming left bytes × (after ≡ before ++ bytes)
