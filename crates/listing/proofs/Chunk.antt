@@ -1,18 +1,31 @@
 -- The loop over a chunk: what is left of the chunk, listed from here, makes what the whole of it makes from the start. Assumes nothing.
 use mathlib.Core.Path.{◌≡◌, refl, sym, ap, ◌∙◌}
 use mathlib.Core.List.{List, []}
-use Prim.Native.Nat.{ℕ, ◌+◌, ◌≤◌}
+use Prim.Native.Nat.{ℕ, ◌+◌, ◌-◌, ◌<◌, ◌≤◌}
 use native.Mathlib.Omega.{arith}
-use lib.ListN.{length, drop, drop_of_length-le}
-use lib.Seq.{drop-drop}
-use Rattle.hexline.proofs.Bytewise.{chunk_turn}
+use lib.ListN.{length, take, drop, length-drop, drop_of_length-le}
+use lib.Seq.{take_all, drop-drop}
+use Rattle.hexline.proofs.Bytewise.{used-of, chunk_turn}
 use Rattle.hexline.specs.Reader.{take_of}
 use Rattle.hexline.specs.Text.{Run, after, found_by, chunk_in, chunk_of}
+use Rattle.hexline.specs.declared.Reader.{Reader}
 use Rattle.hexline.specs.declared.Taken.{Taken}
 use Rattle.listing.specs.Buffer.{Room, buffer_after}
 use Rattle.listing.specs.Chunk.{buffer, Lists}
 use Rattle.listing.specs.declared.Listing.{Listing}
 use Rattle.listing.proofs.Gather.{after_both, room_kept}
+
+module _ (chunk : List ℕ) (at : ℕ) (r : Reader) (t : Taken) (took : t ≡ take_of r (take (length chunk - at) (drop at chunk))) where
+  -- what is left of the chunk was read from
+  pub took_rest : t ≡ take_of r (drop at chunk)
+  took_rest = took ∙ ap (take_of r) (take_all (length chunk - at) (drop at chunk) (omega (arith, length-drop at chunk)))
+
+  -- at least a byte of it, and no more than there are
+  pub advances : at < length chunk → (1 ≤ t.used) × (at + t.used ≤ length chunk)
+  advances more =
+      let rest : length (drop at chunk) ≡ length chunk - at = length-drop at chunk in
+      let used = used-of r (drop at chunk) (omega arith) in
+      rw took_rest (used.0, omega arith)
 
 -- `at` bytes into the chunk
 pub record Going (chunk out₀ : List ℕ) (given : Listing) (out : List ℕ) (next : Listing) (at : ℕ) : Type 0 where

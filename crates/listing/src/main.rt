@@ -6,7 +6,8 @@
 // line that says so on standard error.
 #![tactic(auto)]
 
-ghost use Rattle.std.specs.Prelude.{◌≡◌, true, ◌≤◌, length};
+ghost use Rattle.std.specs.Prelude.{◌≡◌, true, ◌≤◌, length, take};
+ghost use Rattle.std.specs.Io.KnownBytes.{Appends};
 ghost use Rattle.text.specs.Put.{gave};
 ghost use Rattle.hexline.specs.Reader.{end_of};
 ghost use Rattle.hexline.specs.Text.{chunk_of, found_by};
@@ -15,7 +16,7 @@ ghost use Rattle.listing.specs.Chunk.{buffer, Lists};
 
 use hexline::print::ROW;
 use hexline::{Reader, Taken};
-use libc::{STDERR_FILENO, STDIN_FILENO, STDOUT_FILENO};
+use std::io::{Read, Write};
 
 // What goes from one chunk to the next: the reader of lines, how many bytes of the output buffer are
 // rows that wait to be written, and whether there is more to do.
@@ -26,15 +27,27 @@ struct Listing {
     going: bool,
 }
 
-fn main() {
-    let mut chunk = io::large_buffer();
-    let mut out = io::large_buffer();
-    list(&mut chunk, &mut out);
+fn main(rt: HostRuntime) {
+    let mut chunk = [0u8; 65536];
+    let mut out = [0u8; 65536];
+    list(
+        &mut rt.stdin(),
+        &mut rt.stdout(),
+        &mut rt.stderr(),
+        &mut chunk,
+        &mut out,
+    );
 }
 
 // A proved loop has to end, and nothing says that an input does. So the reads are counted down, from
 // a number that no run uses up.
-fn list(chunk: &mut [u8], out: &mut [u8])
+fn list(
+    input: &mut impl Read,
+    output: &mut impl Write,
+    errors: &mut impl Write,
+    chunk: &mut [u8],
+    out: &mut [u8],
+)
     requires { 64 ≤ length out.old }
 {
     let mut listing = Listing {
@@ -44,42 +57,58 @@ fn list(chunk: &mut [u8], out: &mut [u8])
     };
     let mut reads = u64::MAX;
     while reads > 0 && listing.going {
-        listing = list_some(listing, chunk, out);
+        listing = list_some(input, output, errors, listing, chunk, out);
         reads -= 1;
     }
-    write(out, listing.waiting);
+    write(output, errors, out, listing.waiting);
 }
 
 // One read, and the rows of the lines that end in what it gives.
-fn list_some(listing: Listing, chunk: &mut [u8], out: &mut [u8]) -> Listing
+fn list_some(
+    input: &mut impl Read,
+    output: &mut impl Write,
+    errors: &mut impl Write,
+    listing: Listing,
+    chunk: &mut [u8],
+    out: &mut [u8],
+) -> Listing
     requires { Room (buffer listing out.old) }
     ensures { Room (buffer result out.new) }
 {
-    let got = libc::read(STDIN_FILENO, chunk);
-    if got < 0 {
-        say(b"listing: the input cannot be read\n");
-        return stopped(listing);
+    match input.read(chunk) {
+        Err(_) => {
+            say(errors, b"listing: the input cannot be read\n");
+            stopped(listing)
+        }
+        Ok(0) => list_end(output, errors, listing, out),
+        Ok(n) => list_chunk(output, errors, listing, &chunk[..n], out),
     }
-    if got == 0 {
-        return list_end(listing, out);
-    }
-    let n = io::count(got, chunk);
-    list_chunk(listing, &chunk[..n], out)
 }
 
 // The row of a last line without a newline.
-fn list_end(listing: Listing, out: &mut [u8]) -> Listing
+fn list_end(
+    output: &mut impl Write,
+    errors: &mut impl Write,
+    listing: Listing,
+    out: &mut [u8],
+) -> Listing
     requires { Room (buffer listing out.old) }
     ensures room { Room (buffer result out.new) }
     ensures out_after { buffer result out.new ≡ buffer_after (found_by (end_of listing.reader)) (buffer listing out.old) }
 {
     let reader = listing.reader;
-    let last = add(reader.end(), out, listing.waiting);
+    let last = add(output, errors, reader.end(), out, listing.waiting);
     stopped(last)
 }
 
 // The rows of the lines that end in a chunk. If a write fails the rest of it is left.
-fn list_chunk(listing: Listing, chunk: &[u8], out: &mut [u8]) -> Listing
+fn list_chunk(
+    output: &mut impl Write,
+    errors: &mut impl Write,
+    listing: Listing,
+    chunk: &[u8],
+    out: &mut [u8],
+) -> Listing
     requires { Room (buffer listing out.old) }
     ensures room { Room (buffer result out.new) }
     ensures lists { result.going ≡ true → Lists listing out.old (chunk_of listing.reader chunk.now) result out.new }
@@ -93,21 +122,27 @@ fn list_chunk(listing: Listing, chunk: &[u8], out: &mut [u8]) -> Listing
         let reader = next.reader;
         let taken = reader.take(&chunk[at..]);
         at += taken.used;
-        next = add(taken, out, next.waiting);
+        next = add(output, errors, taken, out, next.waiting);
     }
     next
 }
 
 // The row of the line that ended, if one did, goes after the rows that wait. Where there is no room
 // for another they are all written.
-fn add(taken: Taken, out: &mut [u8], waiting: usize) -> Listing
+fn add(
+    output: &mut impl Write,
+    errors: &mut impl Write,
+    taken: Taken,
+    out: &mut [u8],
+    waiting: usize,
+) -> Listing
     requires { Room (gave waiting out.old) }
     ensures { (result.reader ≡ taken.reader) × (buffer result out.new ≡ buffer_after (found_by taken) (gave waiting out.old)) }
 {
     let reader = taken.reader;
     let next = listed::row(taken, out, waiting);
     if out.len() - next < ROW {
-        let going = write(out, next);
+        let going = write(output, errors, out, next);
         return Listing {
             reader,
             waiting: 0,
@@ -130,16 +165,18 @@ fn stopped(listing: Listing) -> Listing
 }
 
 // Writes the rows that wait, and answers whether the output took them.
-fn write(out: &[u8], waiting: usize) -> bool
+fn write<W: Write>(output: &mut W, errors: &mut impl Write, out: &[u8], waiting: usize) -> bool
     requires { waiting ≤ length out.now }
+    ensures written { result ≡ true → Appends (W.contents output.old) (W.contents output.new) (take waiting out.now) }
 {
-    if io::write_all(STDOUT_FILENO, &out[..waiting]) {
+    if output.write_all(&out[..waiting]).is_ok() {
         return true;
     }
-    say(b"listing: the output cannot be written\n");
+    say(errors, b"listing: the output cannot be written\n");
     false
 }
 
-fn say(text: &[u8]) {
-    io::write_all(STDERR_FILENO, text);
+// Where standard error takes nothing either, there is no one to tell.
+fn say(errors: &mut impl Write, text: &[u8]) {
+    let _ = errors.write_all(text);
 }
