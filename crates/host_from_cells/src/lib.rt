@@ -45,6 +45,7 @@ pub fn is_host(cells: &[u32]) -> bool
 }
 
 // The record that the cells are; too few of them give a fresh one.
+#[tactic(auto, using(crate::proofs::Cases::host_few))]
 pub fn host_in(cells: &[u32]) -> Host
     ensures { result ≡ host_in cells.now }
 {
@@ -123,6 +124,7 @@ pub fn is_builder(cells: &[u32]) -> bool
 }
 
 // The builder that the cells are; too few of them give a fresh one.
+#[tactic(auto, using(crate::proofs::Cases::builder_few))]
 pub fn builder_in(cells: &[u32]) -> Builder
     ensures { result ≡ builder_in cells.now }
 {
