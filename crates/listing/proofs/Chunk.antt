@@ -1,6 +1,6 @@
 -- The loop over a chunk: what is left of the chunk, listed from here, makes what the whole of it makes from the start. Assumes nothing.
-use mathlib.Core.Path.{◌≡◌, refl, sym, ap, ◌∙◌}
-use mathlib.Core.List.{List, []}
+use mathlib.Core.Path.{◌≡◌, refl, sym, ap, subst, ◌∙◌}
+use mathlib.Core.List.{List, [], ◌++◌, append_assoc, append-nil}
 use Prim.Native.Nat.{ℕ, ◌+◌, ◌-◌, ◌<◌, ◌≤◌}
 use native.Mathlib.Omega.{arith}
 use lib.ListN.{length, take, drop, length-drop, drop_of_length-le}
@@ -10,10 +10,12 @@ use Rattle.hexline.specs.Reader.{take_of}
 use Rattle.hexline.specs.Text.{Run, after, found_by, chunk_in, chunk_of}
 use Rattle.hexline.specs.declared.Reader.{Reader}
 use Rattle.hexline.specs.declared.Taken.{Taken}
-use Rattle.listing.specs.Buffer.{Room, buffer_after}
+use Rattle.std.specs.Io.KnownBytes.{Appends}
+use Rattle.std.specs.declared.option.Option.{Option}
+use Rattle.listing.specs.Buffer.{Room, buffer_after, written_by}
 use Rattle.listing.specs.Chunk.{buffer, Lists}
 use Rattle.listing.specs.declared.Listing.{Listing}
-use Rattle.listing.proofs.Gather.{after_both, room_kept}
+use Rattle.listing.proofs.Gather.{after_both, written_both, room_kept, appends_none, appends_both}
 
 module _ (chunk : List ℕ) (at : ℕ) (r : Reader) (t : Taken) (took : t ≡ take_of r (take (length chunk - at) (drop at chunk))) where
   -- what is left of the chunk was read from
@@ -68,3 +70,45 @@ module _ (chunk out₀ : List ℕ) (given : Listing) where
     ends over =
         let nothing : drop at chunk ≡ [] = drop_of_length-le chunk {i = at} over in
         record { reader_is = rw nothing at so_far.readers; buffer_is = rw nothing at so_far.buffers }
+
+-- what was written, and what will be for the rest of the chunk
+pub record Writing (chunk out₀ : List ℕ) (given : Listing) (out : List ℕ) (next : Listing) (at : ℕ) (had has : Option (List ℕ)) : Type 0 where
+  pub so_far : List ℕ
+  pub appended : Appends had has so_far
+  pub whole : so_far ++ written_by (chunk_of next.reader (drop at chunk)).found (buffer next out) ≡ written_by (chunk_of given.reader chunk).found (buffer given out₀)
+
+module _ (chunk out₀ : List ℕ) (given : Listing) where
+  pub writing_starts : (had : Option (List ℕ)) → Writing chunk out₀ given out₀ given 0 had had
+  writing_starts had = record { so_far = []; appended = appends_none had; whole = refl }
+
+  module _ (out : List ℕ) (next : Listing) (at : ℕ) (had mid has : Option (List ℕ)) (writing : Writing chunk out₀ given out next at had mid) where
+    pub writing_turn : (t : Taken) (out' : List ℕ) (next' : Listing) → t ≡ take_of next.reader (drop at chunk)
+        → next'.reader ≡ t.reader → buffer next' out' ≡ buffer_after (found_by t) (buffer next out)
+        → Appends mid has (written_by (found_by t) (buffer next out))
+        → Writing chunk out₀ given out' next' (at + t.used) had has
+    writing_turn t out' next' took reader_is buffer_is appends =
+        let rest = drop at chunk in
+        let left : chunk_of next'.reader (drop (at + t.used) chunk) ≡ chunk_of t.reader (drop t.used rest) =
+        rw (reader_is, ← drop-drop t.used at chunk) in
+        let whole : chunk_of next.reader rest ≡ after (found_by t) (chunk_of t.reader (drop t.used rest)) =
+        chunk_turn next.reader rest ∙ ap (λ (u : Taken). after (found_by u) (chunk_of u.reader (drop u.used rest))) (sym took) in
+        record {
+          so_far = writing.so_far ++ written_by (found_by t) (buffer next out);
+          appended = appends_both had mid has writing.so_far _ writing.appended appends;
+          whole =
+              append_assoc writing.so_far _ _
+              ∙ ap (λ l. writing.so_far ++ l) (
+              (λ i. written_by (found_by t) (buffer next out) ++ written_by (left i).found (buffer_is i))
+              ∙ sym (written_both (found_by t) (chunk_of t.reader (drop t.used rest)).found (buffer next out))
+              ∙ ap (λ (run : Run). written_by run.found (buffer next out)) (sym whole)
+              )
+              ∙ writing.whole;
+        }
+
+    pub writing_ends : length chunk ≤ at → Appends had mid (written_by (chunk_of given.reader chunk).found (buffer given out₀))
+    unfolding chunk_in written_by
+    writing_ends over =
+        let nothing : drop at chunk ≡ [] = drop_of_length-le chunk {i = at} over in
+        let all : writing.so_far ≡ written_by (chunk_of given.reader chunk).found (buffer given out₀) =
+        sym (append-nil writing.so_far) ∙ rw nothing at writing.whole in
+        subst (Appends had mid) all writing.appended

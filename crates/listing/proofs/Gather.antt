@@ -7,6 +7,9 @@ use native.Mathlib.Omega.{arith}
 use borrow.Author.Tests.{lt-ltb, le-ltb}
 use lib.ListN.{length, take, drop, take-append-drop, length-append, length-drop}
 use lib.Seq.{length-take-le, take_at}
+use Rattle.std.specs.Prelude.{None, Some}
+use Rattle.std.specs.Io.KnownBytes.{Appends}
+use Rattle.std.specs.declared.option.Option.{Option}
 use Rattle.wire.proofs.Cases.{by_order}
 use Rattle.hexline.specs.Lines.{Found, a_frame, no_frame}
 use Rattle.text.specs.Put.{Written, gave}
@@ -17,6 +20,13 @@ use Rattle.hexline.specs.declared.Reader.{Reader}
 use Rattle.hexline.specs.declared.Taken.{Taken}
 use Rattle.listed.specs.Rows.{row_text, rows_of, printed_at, row_at}
 use Rattle.listing.specs.Buffer.{Room, waiting_in, with_row, settled, written_of, buffer_after, written_by}
+
+pub written_both : (fs gs : List Found) (b : Written) → written_by (fs ++ gs) b ≡ written_by fs b ++ written_by gs (buffer_after fs b)
+unfolding written_by buffer_after
+written_both [] gs b = refl
+written_both (f ∷ fs) gs b =
+    ap (λ l. written_of (with_row f b) ++ l) (written_both fs gs (settled (with_row f b)))
+    ∙ sym (append_assoc (written_of (with_row f b)) (written_by fs (settled (with_row f b))) _)
 
 pub after_both : (fs gs : List Found) (b : Written) → buffer_after (fs ++ gs) b ≡ buffer_after gs (buffer_after fs b)
 unfolding buffer_after
@@ -88,6 +98,22 @@ module _ (at : ℕ) (out : List ℕ) (room : at + 64 ≤ length out) where
   one_line : (f : Found) → settled (printed_at at (rows_of (f ∷ [])) out) ≡ settled (with_row f (gave at out))
   one_line f = ap (λ text. settled (printed_at at text out)) (append-nil (row_text f.number f.content))
 
+  no_line_written : written_of (printed_at at [] out) ≡ []
+  no_line_written =
+      rw (le-ltb (length out) (at + 64) room, add-zero at, take-append-drop at out)
+      (rw (le-ltb (length out) (at + 64) room))
+
+  one_line_written : (f : Found) → written_of (printed_at at (rows_of (f ∷ [])) out) ≡ written_of (with_row f (gave at out)) ++ []
+  one_line_written f =
+      ap (λ text. written_of (printed_at at text out)) (append-nil (row_text f.number f.content))
+      ∙ sym (append-nil (written_of (with_row f (gave at out))))
+
+  by_line_written : (line : Line) (r : Reader) → written_of (printed_at at (rows_of (line_in line r)) out) ≡ written_by (line_in line r) (gave at out)
+  unfolding written_by
+  by_line_written Unfinished r = no_line_written
+  by_line_written Frame r = one_line_written (record { number = r.number; content = a_frame r.frame })
+  by_line_written Length r = one_line_written (record { number = r.number; content = no_frame })
+
   by_line : (line : Line) (r : Reader) → settled (printed_at at (rows_of (line_in line r)) out) ≡ buffer_after (line_in line r) (gave at out)
   unfolding buffer_after
   by_line Unfinished r = no_line
@@ -98,9 +124,31 @@ module _ (at : ℕ) (out : List ℕ) (room : at + 64 ≤ length out) where
   unfolding row_at
   taken_row t w e = ap settled e ∙ by_line t.line t.reader
 
+  -- and what is written then
+  pub row_written : (t : Taken) (w : Written) → w ≡ row_at t at out → written_of w ≡ written_by (found_by t) (gave at out)
+  unfolding row_at
+  row_written t w e = ap written_of e ∙ by_line_written t.line t.reader
+
 -- the two ways that the code goes on
 pub when_full : (next : ℕ) (out : List ℕ) → length out < next + 64 → gave 0 out ≡ settled (gave next out)
 when_full next out full = rw (lt-ltb (length out) (next + 64) full)
 
 pub when_not_full : (next : ℕ) (out : List ℕ) → next + 64 ≤ length out → gave next out ≡ settled (gave next out)
 when_not_full next out more = rw (le-ltb (length out) (next + 64) more)
+
+pub written_when_full : (next : ℕ) (out : List ℕ) → length out < next + 64 → take next out ≡ written_of (gave next out)
+written_when_full next out full = rw (lt-ltb (length out) (next + 64) full)
+
+pub none_when_not_full : (next : ℕ) (out : List ℕ) → next + 64 ≤ length out → [] ≡ written_of (gave next out)
+none_when_not_full next out more = rw (le-ltb (length out) (next + 64) more)
+
+-- an output whose bytes are known, to which nothing and to which two texts are written
+pub appends_none : (held : Option (List ℕ)) → Appends held held []
+appends_none None = tt
+appends_none (Some xs) = sym (append-nil xs)
+
+pub appends_both : (a b c : Option (List ℕ)) (x y : List ℕ) → Appends a b x → Appends b c y → Appends a c (x ++ y)
+appends_both None b c x y one other = tt
+appends_both (Some us) None c x y one other = elim one [ ]
+appends_both (Some us) (Some vs) None x y one other = elim other [ ]
+appends_both (Some us) (Some vs) (Some ws) x y one other = other ∙ ap (λ l. l ++ y) one ∙ append_assoc us x y

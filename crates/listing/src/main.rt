@@ -6,13 +6,13 @@
 // line that says so on standard error.
 #![tactic(auto)]
 
-ghost use Rattle.std.specs.Prelude.{◌≡◌, true, ◌≤◌, length, take};
+ghost use Rattle.std.specs.Prelude.{◌≡◌, true, false, ◌≤◌, length, take};
 ghost use Rattle.std.specs.Io.KnownBytes.{Appends};
 ghost use Rattle.text.specs.Put.{gave};
 ghost use Rattle.hexline.specs.Reader.{end_of};
 ghost use Rattle.hexline.specs.Text.{chunk_of, found_by};
-ghost use Rattle.listing.specs.Buffer.{Room, buffer_after};
-ghost use Rattle.listing.specs.Chunk.{buffer, Lists};
+ghost use Rattle.listing.specs.Buffer.{Room, buffer_after, written_by};
+ghost use Rattle.listing.specs.Chunk.{buffer, Lists, ListsOn};
 
 use hexline::print::ROW;
 use hexline::{Reader, Taken};
@@ -64,16 +64,17 @@ fn list(
 }
 
 // One read, and the rows of the lines that end in what it gives.
-fn list_some(
-    input: &mut impl Read,
-    output: &mut impl Write,
+fn list_some<R: Read, W: Write>(
+    input: &mut R,
+    output: &mut W,
     errors: &mut impl Write,
     listing: Listing,
     chunk: &mut [u8],
     out: &mut [u8],
 ) -> Listing
     requires { Room (buffer listing out.old) }
-    ensures { Room (buffer result out.new) }
+    ensures room { Room (buffer result out.new) }
+    ensures lists_on { result.going ≡ true → ListsOn (R.remaining input.old) (R.remaining input.new) (W.contents output.old) (W.contents output.new) listing chunk.new out.old result out.new }
 {
     match input.read(chunk) {
         Err(_) => {
@@ -95,6 +96,7 @@ fn list_end(
     requires { Room (buffer listing out.old) }
     ensures room { Room (buffer result out.new) }
     ensures out_after { buffer result out.new ≡ buffer_after (found_by (end_of listing.reader)) (buffer listing out.old) }
+    ensures stops { result.going ≡ false }
 {
     let reader = listing.reader;
     let last = add(output, errors, reader.end(), out, listing.waiting);
@@ -102,8 +104,8 @@ fn list_end(
 }
 
 // The rows of the lines that end in a chunk. If a write fails the rest of it is left.
-fn list_chunk(
-    output: &mut impl Write,
+fn list_chunk<W: Write>(
+    output: &mut W,
     errors: &mut impl Write,
     listing: Listing,
     chunk: &[u8],
@@ -112,6 +114,7 @@ fn list_chunk(
     requires { Room (buffer listing out.old) }
     ensures room { Room (buffer result out.new) }
     ensures lists { result.going ≡ true → Lists listing out.old (chunk_of listing.reader chunk.now) result out.new }
+    ensures written { result.going ≡ true → Appends (W.contents output.old) (W.contents output.new) (written_by (chunk_of listing.reader chunk.now).found (buffer listing out.old)) }
 {
     let mut next = listing;
     let mut at = 0;
@@ -129,15 +132,16 @@ fn list_chunk(
 
 // The row of the line that ended, if one did, goes after the rows that wait. Where there is no room
 // for another they are all written.
-fn add(
-    output: &mut impl Write,
+fn add<W: Write>(
+    output: &mut W,
     errors: &mut impl Write,
     taken: Taken,
     out: &mut [u8],
     waiting: usize,
 ) -> Listing
     requires { Room (gave waiting out.old) }
-    ensures { (result.reader ≡ taken.reader) × (buffer result out.new ≡ buffer_after (found_by taken) (gave waiting out.old)) }
+    ensures row { (result.reader ≡ taken.reader) × (buffer result out.new ≡ buffer_after (found_by taken) (gave waiting out.old)) }
+    ensures written { result.going ≡ true → Appends (W.contents output.old) (W.contents output.new) (written_by (found_by taken) (gave waiting out.old)) }
 {
     let reader = taken.reader;
     let next = listed::row(taken, out, waiting);
@@ -157,7 +161,8 @@ fn add(
 }
 
 fn stopped(listing: Listing) -> Listing
-    ensures { result.waiting ≡ listing.waiting }
+    ensures waiting { result.waiting ≡ listing.waiting }
+    ensures stops { result.going ≡ false }
 {
     let mut last = listing;
     last.going = false;

@@ -6,4 +6,4 @@ use Rattle.listing.proofs.Gather.{room_kept}
 use Rattle.listing.proofs.list_end.Goals as goal
 
 pub returns-clause-room : goal.returns-clause-room
-returns-clause-room g c = room_kept (found_by c.end.result) _ _ c.requires (ap (λ n. gave n c.add-last.new.out) c.stopped.ensures ∙ c.add-last.ensures.1)
+returns-clause-room g c = room_kept (found_by c.end.result) _ _ c.requires (ap (λ n. gave n c.add-last.new.out) c.stopped.ensures.waiting ∙ c.add-last.ensures.row.1)
