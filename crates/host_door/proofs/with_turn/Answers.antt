@@ -8,23 +8,13 @@ use lib.Seq.{sets-eq}
 use Rattle.cells.proofs.Cases.{put_first}
 use borrow.Author.Rules.{rules}
 use Rattle.host_cells.specs.Host.{host_count}
-use Rattle.host_door.proofs.with_turn.Statement.{statement}
-use Rattle.host_door.proofs.with_turn.Tie as tie
+use Rattle.host_door.proofs.with_turn.Goals as goal
 
-slice-aggregate-put : tie.Need-slice-aggregate-put
-slice-aggregate-put c = search rules
-
-put-requires : tie.Need-put-requires
-put-requires c κs = search rules
-
-returns : tie.Need-returns
+pub returns : goal.returns
 returns c =
-    let host = c.before.before.before.before.args.host.now in
+    let host = c.args.host.now in
     let long : length host ≡ host_count = search rules in
-    c.before.put.ensures
+    c.put.ensures
     ∙ put_first (replicate (suc host_count) 0) host (omega (arith, long))
     ∙ sets-eq host (replicate (suc host_count) 0) 0 (omega (arith, long))
     ∙ ap (λ k. host ++ drop (0 + k) (replicate (suc host_count) 0)) long
-
-pub with-turn-spec : {M : Type 1} → statement M
-with-turn-spec = tie.close (tie.spec slice-aggregate-put put-requires returns)
