@@ -1,5 +1,6 @@
 -- What is proved of a transfer.
 pub mod Cases
+pub mod WithRow
 pub mod Room
 pub mod OneMore
 pub mod InOrder

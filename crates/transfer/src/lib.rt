@@ -59,7 +59,7 @@ fn none_read(answer: Answer, status: Status) -> Transfer
 }
 
 // The first test of the whole that holds.
-#[tactic(auto, using(layout::proofs::Lookup::found, crate::proofs::Cases::left_over, crate::proofs::Cases::no_frame_lem, crate::proofs::Cases::many_frames_lem, crate::proofs::Cases::wrong_length))]
+#[tactic(auto, using(layout::proofs::Lookup::found, crate::proofs::Cases::left_over, crate::proofs::Cases::no_frame_lem, crate::proofs::Cases::many_frames_lem, crate::proofs::Cases::wrong_length, crate::proofs::WithRow::row_values, crate::proofs::WithRow::all_values, crate::proofs::WithRow::iq_short, crate::proofs::WithRow::mic_short, crate::proofs::WithRow::both_long))]
 pub(crate) fn refusal(bytes: usize, receivers: usize, iq: usize, mic: usize) -> Answer
     ensures { result ≡ answer_of bytes receivers iq mic }
 {
