@@ -20,11 +20,11 @@ aarch64:) machine=aarch64 ;;
     ;;
 esac
 folder=$home/target/$machine
-here=$home/target/archive
+native=$home/target/archive
 
 know_toolchain
 tools=$(machine_tools)
-mkdir -p "$folder" "$here"
+mkdir -p "$folder" "$native"
 sources >"$folder/sources.now"
 if [ ! -f "$folder/libhpsdr.a" ] || ! cmp -s "$folder/sources" "$folder/sources.now"; then
     rm -f "$folder/sources"
@@ -37,5 +37,5 @@ if [ ! -f "$folder/libhpsdr.a" ] || ! cmp -s "$folder/sources" "$folder/sources.
     mv "$folder/sources.now" "$folder/sources"
 fi
 if [ "$machine" = x86_64 ]; then
-    cmp -s "$folder/libhpsdr.a" "$here/libhpsdr.a" || cp "$folder/libhpsdr.a" "$here/libhpsdr.a"
+    cmp -s "$folder/libhpsdr.a" "$native/libhpsdr.a" || cp "$folder/libhpsdr.a" "$native/libhpsdr.a"
 fi

@@ -39,7 +39,7 @@ machine_tools() {
 # What all that is built is made from: the toolchain and the sources.
 sources() {
     rt version </dev/null
-    (cd "$home" && find crates -type f -path 'crates/*/src/*' -exec sha256sum {} + | sort)
+    (cd "$home" && find crates -name out -prune -o -type f -path 'crates/*/src/*' -exec sha256sum {} + | sort)
 }
 
 tell_beginning() {
