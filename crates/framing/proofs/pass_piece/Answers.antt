@@ -8,3 +8,6 @@ returns-then-not-next-clause-still_sound g c = still_sound _ _ _ _ c.feed_on-nex
 
 pub returns-clause-still_sound : goal.returns-clause-still_sound
 returns-clause-still_sound g c = still_sound _ _ _ _ c.feed_on-next.ensures (search rules) c.requires.sound
+
+pub returns-clause-written : goal.returns-clause-written
+returns-clause-written g c = c.write.ensures.written

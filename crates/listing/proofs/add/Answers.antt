@@ -10,7 +10,7 @@ pub overflow_sub-out : goal.overflow_sub-out
 overflow_sub-out g c = row_inside _ _ _ _ _ c.row-next.ensures c.row-next.auto.out (omega arith)
 
 pub write-going-requires : goal.write-going-requires
-write-going-requires g c = row_inside _ _ _ _ _ c.row-next.ensures c.row-next.auto.out (omega arith)
+write-going-requires g c = let within = row_inside _ _ _ _ _ c.row-next.ensures c.row-next.auto.out (omega arith) in omega arith
 
 pub returns-then-out-next-lt-ROW-clause-row : goal.returns-then-out-next-lt-ROW-clause-row
 returns-then-out-next-lt-ROW-clause-row g c =
