@@ -479,8 +479,9 @@ static inline int hpsdr_stream_is_sound(const struct hpsdr_stream *stream) {
  * call skips stand before it. So after a call that found 1 on a stream that began fresh, the frame's place in all that
  * was fed, counted from 0, is 512 * (counts.frames - 1) + counts.skipped.
  *
- * The stack. On x86-64 the call goes at most 2,048 bytes below its caller, whatever it answers: tests/stack.c fails
- * above that, and found 280 bytes. It is no part of what is proved.
+ * The stack. On Arm and x86-64 the call goes at most 2,048 bytes below its caller, whatever it answers: tests/stack.c
+ * fails above that, and found 280 bytes on x86-64; the code for Arm sets aside 128 and calls memset alone. It is no part
+ * of what is proved.
  *
  * What no reader can know from the bytes. Sample bytes may imitate sync. Where 7F 7F 7F stands and again 512 bytes
  * later, a frame is taken to begin, and if none did, what is handed out is a false frame: parts of two, say, after
