@@ -37,6 +37,7 @@ pub fn no_sync(frame: &[u8]) -> Answer
 
 // Sync and the control bytes, C0 and then C1 to C4, over the start of a frame. One with no room for
 // them is left as it is.
+#[tactic(auto, using(crate::proofs::Header::no_room))]
 pub fn put_header(frame: &mut [u8], c0: u8, word: Bytes4)
     ensures { frame.new ≡ headed c0 word frame.old }
 {
