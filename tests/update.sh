@@ -7,4 +7,6 @@ name=tests/update.sh
 . tools/common.sh
 know_toolchain
 build lib radio_c --target x86_64-unknown-linux-gnu
-tests/x86.sh tests/update.c crates/radio_c/out/libradio_c.a
+mkdir -p target/staticlib
+cp crates/radio_c/out/libradio_c.a target/staticlib/libradio.a
+tests/x86.sh tests/update.c target/staticlib/libradio.a
