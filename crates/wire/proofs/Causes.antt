@@ -7,11 +7,12 @@ use native.Mathlib.Omega.{arith}
 use borrow.Author.Tests.{eqb-true, not-false, not-true}
 use lib.Dec.{eqb}
 use lib.ListN.{get_or}
-use Rattle.wire.specs.Answers.{Test, ◌gives◌, first, number_of, reserving, CauseNamed}
+use Rattle.std.specs.Prelude.{Err}
+use Rattle.wire.specs.Answers.{Accepted, Test, ◌gives◌, first, number_of, reserving, CauseNamed}
 use Rattle.wire.specs.Causes.{causes, cause_number}
 use Rattle.wire.specs.Every.{every}
 use Rattle.wire.specs.Places.{first_wrong}
-use Rattle.wire.specs.declared.Answer.TheVariants.{Accepted, Reserved}
+use Rattle.wire.specs.declared.Refusal.TheVariants.{Reserved}
 use Rattle.wire.specs.declared.Cause.{Cause}
 use Rattle.wire.specs.declared.Cause.TheVariants.{Source10, Relay, Word9C4Bit7, Word10C1Bit7, Ain5, Ain1, Ain2, Ain3, Ain4, Ain6}
 use Rattle.wire.proofs.Cases.{by_test}
@@ -50,7 +51,7 @@ module _ (is_set : Cause → Bool) where
   all-off (cause ∷ rest) e =
       by_test (is_set cause) (λ set. absurd (true≢false (sym e ∙ rw set))) (λ unset. rw unset (all-off rest (rw unset at e)))
 
-  first-set : (some : List Cause) → every off some ≡ false → first (map refusing some) ≡ Reserved (get_or some (first_wrong off some) Source10)
+  first-set : (some : List Cause) → every off some ≡ false → first (map refusing some) ≡ Err (Reserved (get_or some (first_wrong off some) Source10))
   first-set [] e = absurd (true≢false e)
   first-set (cause ∷ rest) e = by_test (is_set cause) (λ set. rw set) (λ unset. rw unset (first-set rest (rw unset at e)))
 

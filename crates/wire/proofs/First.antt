@@ -8,10 +8,10 @@ use native.Mathlib.Omega.{arith}
 use borrow.Author.Tests.{leb-true, eqb-true, eqb-false}
 use lib.Dec.{leb, eqb}
 use Rattle.wire.proofs.Cases.{by_test, both_true, neither}
-use Rattle.wire.specs.Answers.{Test, ◌gives◌, first, number_of, place_of, nine, from, in_order, accepts}
-use Rattle.wire.specs.declared.Answer.{Answer}
+use Rattle.std.specs.Prelude.{Ok, Err}
+use Rattle.wire.specs.Answers.{Answer, Accepted, Test, ◌gives◌, first, number_of, place_of, nine, from, in_order, accepts}
 use Rattle.wire.specs.declared.Cause.{Cause}
-use Rattle.wire.specs.declared.Answer.TheVariants.{Accepted, BadState, BadCount, Length, ShortBuffer, StreamFull, NoSync, Padding, Reserved, Range}
+use Rattle.wire.specs.declared.Refusal.TheVariants.{BadState, BadCount, Length, ShortBuffer, StreamFull, NoSync, Padding, Reserved, Range}
 
 module _ (t : Test) (ts : List Test) where
   pub first-here : t.holds ≡ true → first (t ∷ ts) ≡ t.answer
@@ -88,42 +88,42 @@ pub nine_in_order : (byte padding : ℕ) (cause : Cause) → in_order (map (λ r
 nine_in_order byte padding cause = refl
 
 pub few_numbers : (a : Answer) → number_of a ≤ 9
-few_numbers Accepted = omega arith
-few_numbers BadState = omega arith
-few_numbers BadCount = omega arith
-few_numbers Length = omega arith
-few_numbers ShortBuffer = omega arith
-few_numbers StreamFull = omega arith
-few_numbers (NoSync byte) = omega arith
-few_numbers (Padding byte) = omega arith
-few_numbers (Reserved cause) = omega arith
-few_numbers Range = omega arith
+few_numbers (Ok _) = omega arith
+few_numbers (Err BadState) = omega arith
+few_numbers (Err BadCount) = omega arith
+few_numbers (Err Length) = omega arith
+few_numbers (Err ShortBuffer) = omega arith
+few_numbers (Err StreamFull) = omega arith
+few_numbers (Err (NoSync byte)) = omega arith
+few_numbers (Err (Padding byte)) = omega arith
+few_numbers (Err (Reserved cause)) = omega arith
+few_numbers (Err Range) = omega arith
 
 -- T-02: a place is given where the refusal is one of the three, and nowhere else
 pub no_place : (a : Answer) → (number_of a ≡ 6 → ⊥) → (number_of a ≡ 7 → ⊥) → (number_of a ≡ 8 → ⊥) → place_of a ≡ 0
-no_place Accepted not6 not7 not8 = refl
-no_place BadState not6 not7 not8 = refl
-no_place BadCount not6 not7 not8 = refl
-no_place Length not6 not7 not8 = refl
-no_place ShortBuffer not6 not7 not8 = refl
-no_place StreamFull not6 not7 not8 = refl
-no_place (NoSync byte) not6 not7 not8 = absurd (not6 refl)
-no_place (Padding byte) not6 not7 not8 = absurd (not7 refl)
-no_place (Reserved cause) not6 not7 not8 = absurd (not8 refl)
-no_place Range not6 not7 not8 = refl
+no_place (Ok _) not6 not7 not8 = refl
+no_place (Err BadState) not6 not7 not8 = refl
+no_place (Err BadCount) not6 not7 not8 = refl
+no_place (Err Length) not6 not7 not8 = refl
+no_place (Err ShortBuffer) not6 not7 not8 = refl
+no_place (Err StreamFull) not6 not7 not8 = refl
+no_place (Err (NoSync byte)) not6 not7 not8 = absurd (not6 refl)
+no_place (Err (Padding byte)) not6 not7 not8 = absurd (not7 refl)
+no_place (Err (Reserved cause)) not6 not7 not8 = absurd (not8 refl)
+no_place (Err Range) not6 not7 not8 = refl
 
 -- 0 is the number of no refusal
 pub only_accepted : (a : Answer) → number_of a ≡ 0 → a ≡ Accepted
-only_accepted Accepted e = refl
-only_accepted BadState e = absurd (omega arith)
-only_accepted BadCount e = absurd (omega arith)
-only_accepted Length e = absurd (omega arith)
-only_accepted ShortBuffer e = absurd (omega arith)
-only_accepted StreamFull e = absurd (omega arith)
-only_accepted (NoSync byte) e = absurd (omega arith)
-only_accepted (Padding byte) e = absurd (omega arith)
-only_accepted (Reserved cause) e = absurd (omega arith)
-only_accepted Range e = absurd (omega arith)
+only_accepted (Ok _) e = refl
+only_accepted (Err BadState) e = absurd (omega arith)
+only_accepted (Err BadCount) e = absurd (omega arith)
+only_accepted (Err Length) e = absurd (omega arith)
+only_accepted (Err ShortBuffer) e = absurd (omega arith)
+only_accepted (Err StreamFull) e = absurd (omega arith)
+only_accepted (Err (NoSync byte)) e = absurd (omega arith)
+only_accepted (Err (Padding byte)) e = absurd (omega arith)
+only_accepted (Err (Reserved cause)) e = absurd (omega arith)
+only_accepted (Err Range) e = absurd (omega arith)
 
 pub accepts-only : (a : Answer) → accepts a ≡ true → a ≡ Accepted
 accepts-only a e = only_accepted a (eqb-true _ 0 e)

@@ -9,11 +9,11 @@ use borrow.Author.Tests.{not-true}
 use lib.Dec.{eqb}
 use lib.ListN.{length, get_or, take, drop, length-drop}
 use lib.Seq.{get_or-take, get_or-drop, length-take-le}
-use Rattle.wire.specs.Answers.{Test, ◌gives◌, first, number_of, place_of}
+use Rattle.std.specs.Prelude.{Err}
+use Rattle.wire.specs.Answers.{Answer, Test, ◌gives◌, first, number_of, place_of}
 use Rattle.wire.specs.Every.{every}
 use Rattle.wire.specs.Places.{first_other, FirstNot}
 use Rattle.wire.specs.Sync.{sync_at, no_sync}
-use Rattle.wire.specs.declared.Answer.{Answer}
 use Rattle.wire.proofs.Cases.{by_order}
 use Rattle.wire.proofs.First.{None, mentions, passing, stopping}
 use Rattle.wire.proofs.FirstWrong.{first_inside, wrong_there, right_before}
@@ -61,7 +61,7 @@ module _ (frame : List ℕ) where
       let at_once : sync_at rest 0 ≡ sync_at frame p = sync-drop p frame 0 ∙ ap (sync_at frame) (add-zero p) in
       rw three at (named_in 0x7f frame (take 3 rest) p same (sym (sync-every rest long) ∙ at_once ∙ missing))
 
-  pub named_sync : 3 ≤ length frame → sync_at frame 0 ≡ false → FirstNot 0x7f frame 0 3 (place_of (no_sync frame))
+  pub named_sync : 3 ≤ length frame → sync_at frame 0 ≡ false → FirstNot 0x7f frame 0 3 (place_of (Err (no_sync frame)))
   named_sync long missing = rw (zero-add (first_other 0x7f (take 3 frame))) at (named_at 0 long missing)
 
 -- among any tests, of which no other gives NO_SYNC, and those before it hold the frame to 512 bytes

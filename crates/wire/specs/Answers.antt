@@ -1,24 +1,31 @@
 -- Document 01, "Nine refusals, in the order they are tested": their numbers, what each carries (T-02), and the first that holds.
 -- Assumes nothing.
-use Rattle.std.specs.Prelude.{ℕ, ◌+◌, ◌*◌, ◌<◌, ◌≡◌, Bool, true, false, cond, ◌&&◌, List, [], ◌∷◌, map, eqb, leb}
+use Rattle.std.specs.Prelude.{ℕ, ◌+◌, ◌*◌, ◌<◌, ◌≡◌, Bool, true, false, cond, ◌&&◌, List, [], ◌∷◌, map, eqb, leb, Result, Ok, Err}
 use Rattle.wire.specs.Causes.{causes, cause_number}
-use Rattle.wire.specs.declared.Answer.{Answer}
 use Rattle.wire.specs.declared.Cause.{Cause}
-use Rattle.wire.specs.declared.Answer.TheVariants.{Accepted, BadState, BadCount, Length, ShortBuffer, StreamFull, NoSync, Padding, Reserved, Range}
+use Rattle.wire.specs.declared.Refusal.{Refusal}
+use Rattle.wire.specs.declared.Refusal.TheVariants.{BadState, BadCount, Length, ShortBuffer, StreamFull, NoSync, Padding, Reserved, Range}
+
+-- "The first that holds is the answer; otherwise the call succeeds (0)"
+abbrev pub Answer : Type 0
+Answer = Result (Unit {0}) Refusal
+
+abbrev pub Accepted : Answer
+Accepted = Ok tt
 
 -- The table, and T-02: "each of the three now carries its place", a byte of the frame from 0, or the number of the cause. No other answer
 -- carries anything: its place is 0.
 abbrev pub number_and_place : Answer → ℕ × ℕ
-number_and_place Accepted = (0, 0)
-number_and_place BadState = (1, 0)
-number_and_place BadCount = (2, 0)
-number_and_place Length = (3, 0)
-number_and_place ShortBuffer = (4, 0)
-number_and_place StreamFull = (5, 0)
-number_and_place (NoSync byte) = (6, byte)
-number_and_place (Padding byte) = (7, byte)
-number_and_place (Reserved cause) = (8, cause_number cause)
-number_and_place Range = (9, 0)
+number_and_place (Ok _) = (0, 0)
+number_and_place (Err BadState) = (1, 0)
+number_and_place (Err BadCount) = (2, 0)
+number_and_place (Err Length) = (3, 0)
+number_and_place (Err ShortBuffer) = (4, 0)
+number_and_place (Err StreamFull) = (5, 0)
+number_and_place (Err (NoSync byte)) = (6, byte)
+number_and_place (Err (Padding byte)) = (7, byte)
+number_and_place (Err (Reserved cause)) = (8, cause_number cause)
+number_and_place (Err Range) = (9, 0)
 
 abbrev pub number_of : Answer → ℕ
 number_of a = (number_and_place a).0
@@ -31,7 +38,7 @@ abbrev pub told : Answer → ℕ
 told a = number_of a + 65536 * place_of a
 
 -- the nine refusals, in the order they are tested, whatever place three of them carry
-abbrev pub nine : ℕ → ℕ → Cause → List Answer
+abbrev pub nine : ℕ → ℕ → Cause → List Refusal
 nine byte padding cause =
     BadState ∷ BadCount ∷ Length ∷ ShortBuffer ∷ StreamFull ∷ NoSync byte ∷ Padding padding ∷ Reserved cause ∷ Range ∷ []
 
@@ -41,10 +48,9 @@ pub record Test : Type 0 where
   pub answer : Answer
 
 infix 70 ◌gives◌
-abbrev pub ◌gives◌ : Bool → Answer → Test
-test gives refusal = record { holds = test; answer = refusal }
+abbrev pub ◌gives◌ : Bool → Refusal → Test
+test gives refusal = record { holds = test; answer = Err refusal }
 
--- "The first that holds is the answer; otherwise the call succeeds (0)"
 abbrev pub first : List Test → Answer
 first [] = Accepted
 first (t ∷ ts) = cond t.holds t.answer (first ts)
@@ -67,6 +73,6 @@ reserving is_set = map (λ cause. is_set cause gives Reserved cause) causes
 -- what is promised of a cause that is named: it is set, and none before it is
 pub record CauseNamed (is_set : Cause → Bool) (answer : Answer) : Type 0 where
   pub cause : Cause
-  pub is : answer ≡ Reserved cause
+  pub is : answer ≡ Err (Reserved cause)
   pub set : is_set cause ≡ true
   pub none_before : (other : Cause) → cause_number other < cause_number cause → is_set other ≡ false

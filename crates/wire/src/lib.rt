@@ -15,11 +15,13 @@ ghost use Rattle.std.specs.Prelude.{◌≡◌, ◌+◌, ◌*◌, ◌≤◌};
 ghost use Rattle.wire.specs.Answers.{number_of, place_of, told};
 ghost use Rattle.wire.specs.Causes.{cause_number};
 
-// What a call answers: it is accepted, or one of the nine refusals, in the order they are tested. Three of
-// them carry their place: the byte of the frame, from 0, that is wrong, or the cause.
-#[derive(Clone, Copy)]
-pub enum Answer {
-    Accepted,
+// What a call answers: it is accepted, or refused.
+pub type Answer = Result<(), Refusal>;
+
+// The nine refusals, in the order they are tested. Three of them carry their place: the byte of the frame, from
+// 0, that is wrong, or the cause.
+#[derive(Clone, Copy, Debug, PartialEq, Eq)]
+pub enum Refusal {
     BadState,
     BadCount,
     Length,
@@ -34,7 +36,7 @@ pub enum Answer {
 // What is refused as RESERVED, in the order it is tested. Of a host frame the unassigned codes and bits: word
 // 0's 10 MHz source and its transmit relay, word 9's C4 bit 7, word 10's C1 bit 7. Of a radio frame the levels
 // above twelve bits: word 1's AIN5 and AIN1, word 2's AIN2 and AIN3, word 3's AIN4 and AIN6.
-#[derive(Clone, Copy)]
+#[derive(Clone, Copy, Debug, PartialEq, Eq)]
 pub enum Cause {
     Source10,
     Relay,
@@ -48,39 +50,59 @@ pub enum Cause {
     Ain6,
 }
 
+impl Refusal {
+    // Its number in document 01's table.
+    pub fn number(self) -> u8
+        ensures { result ≡ number_of (Err self) }
+    {
+        match self {
+            Refusal::BadState => 1,
+            Refusal::BadCount => 2,
+            Refusal::Length => 3,
+            Refusal::ShortBuffer => 4,
+            Refusal::StreamFull => 5,
+            Refusal::NoSync(_) => 6,
+            Refusal::Padding(_) => 7,
+            Refusal::Reserved(_) => 8,
+            Refusal::Range => 9,
+        }
+    }
+
+    // The place that it carries: a byte of the frame, or the number of a cause; 0 where it carries none.
+    pub fn place(self) -> u16
+        ensures { result ≡ place_of (Err self) }
+    {
+        match self {
+            Refusal::BadState => 0,
+            Refusal::BadCount => 0,
+            Refusal::Length => 0,
+            Refusal::ShortBuffer => 0,
+            Refusal::StreamFull => 0,
+            Refusal::NoSync(byte) => byte,
+            Refusal::Padding(byte) => byte,
+            Refusal::Reserved(cause) => cause_number(cause),
+            Refusal::Range => 0,
+        }
+    }
+}
+
 // The number that a report prints for an answer: 0, or the refusal's.
 pub fn number(answer: Answer) -> u8
     ensures { result ≡ number_of answer }
 {
     match answer {
-        Answer::Accepted => 0,
-        Answer::BadState => 1,
-        Answer::BadCount => 2,
-        Answer::Length => 3,
-        Answer::ShortBuffer => 4,
-        Answer::StreamFull => 5,
-        Answer::NoSync(_) => 6,
-        Answer::Padding(_) => 7,
-        Answer::Reserved(_) => 8,
-        Answer::Range => 9,
+        Ok(()) => 0,
+        Err(refusal) => refusal.number(),
     }
 }
 
-// The place that an answer carries: a byte of the frame, or the number of a cause; 0 where it carries none.
+// The place that an answer carries: its refusal's, and 0 where it is accepted.
 pub fn place(answer: Answer) -> u16
     ensures { result ≡ place_of answer }
 {
     match answer {
-        Answer::Accepted => 0,
-        Answer::BadState => 0,
-        Answer::BadCount => 0,
-        Answer::Length => 0,
-        Answer::ShortBuffer => 0,
-        Answer::StreamFull => 0,
-        Answer::NoSync(byte) => byte,
-        Answer::Padding(byte) => byte,
-        Answer::Reserved(cause) => cause_number(cause),
-        Answer::Range => 0,
+        Ok(()) => 0,
+        Err(refusal) => refusal.place(),
     }
 }
 

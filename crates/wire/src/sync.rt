@@ -2,7 +2,7 @@
 ghost use Rattle.std.specs.Prelude.{◌≡◌};
 ghost use Rattle.wire.specs.Sync.{sync_at, no_sync, headed};
 
-use crate::Answer;
+use crate::Refusal;
 use crate::numbers::Bytes4;
 use crate::places::first_other;
 
@@ -26,13 +26,13 @@ pub fn sync_at(s: &[u8], at: usize) -> bool
 }
 
 // The refusal of a frame without sync: the first of its bytes 0 to 2 that is not 7F.
-pub fn no_sync(frame: &[u8]) -> Answer
+pub fn no_sync(frame: &[u8]) -> Refusal
     ensures { result ≡ no_sync frame.now }
 {
     if frame.len() < 3 {
-        return Answer::NoSync(first_other(frame, 0x7f) as u16);
+        return Refusal::NoSync(first_other(frame, 0x7f) as u16);
     }
-    Answer::NoSync(first_other(&frame[..3], 0x7f) as u16)
+    Refusal::NoSync(first_other(&frame[..3], 0x7f) as u16)
 }
 
 // Sync and the control bytes, C0 and then C1 to C4, over the start of a frame. One with no room for
