@@ -2,18 +2,18 @@
 use mathlib.Core.Path.{◌≡◌, refl, ◌∙◌}
 use Prim.Native.Nat.{ℕ, zero, suc, ◌<◌}
 use native.Mathlib.Omega.{arith}
+use Rattle.std.specs.Prelude.{Result, Ok, Err}
 use Rattle.wire.specs.Choice.{four, two}
-use Rattle.host_record.specs.Choices.{speed_code, speed_of, found_source10_code, source10_of, source122_code, source122_of, boards_code, boards_of, microphone_code, microphone_of, attenuator_code, attenuator_of, antenna_code, antenna_of, found_relay_code, relay_of, jack_code, jack_of}
+use Rattle.host_record.specs.Choices.{no_choice, speed_code, speed_of, found_source10_code, source10_of, source122_code, source122_of, boards_code, boards_of, microphone_code, microphone_of, attenuator_code, attenuator_of, antenna_code, antenna_of, found_relay_code, relay_of, jack_code, jack_of}
 use Rattle.host_record.specs.declared.choices.Speed.{Speed}
 use Rattle.host_record.specs.declared.choices.Source10.{Source10}
-use Rattle.host_record.specs.declared.choices.FoundSource10.{FoundSource10}
 use Rattle.host_record.specs.declared.choices.Source122.{Source122}
 use Rattle.host_record.specs.declared.choices.Boards.{Boards}
 use Rattle.host_record.specs.declared.choices.Microphone.{Microphone}
 use Rattle.host_record.specs.declared.choices.Attenuator.{Attenuator}
 use Rattle.host_record.specs.declared.choices.Antenna.{Antenna}
 use Rattle.host_record.specs.declared.choices.Relay.{Relay}
-use Rattle.host_record.specs.declared.choices.FoundRelay.{FoundRelay}
+use Rattle.host_record.specs.declared.choices.Unassigned.{Unassigned}
 use Rattle.host_record.specs.declared.choices.Jack.{Jack}
 
 -- `count` codes, each the code of the choice that it names, and each choice named by its code
@@ -22,35 +22,23 @@ pub record ThereAndBack {A : Type 0} (count : ℕ) (code : A → ℕ) (choice : 
   pub back : (x : A) → choice (code x) ≡ x
   pub again : (n : ℕ) → n < count → code (choice n) ≡ n
 
-module _ {A : Type 0} where
-  -- the choice at a code that is none of the first ones, as a `match` has tested them
-  pub four-last : (a b c d : A) (n : ℕ) → ((Unit {0} × (n ≡ 0 → ⊥)) × (n ≡ 1 → ⊥)) × (n ≡ 2 → ⊥) → d ≡ four a b c d n
-  four-last a b c d zero other = absurd (other.0.0.1 refl)
-  four-last a b c d (suc zero) other = absurd (other.0.1 refl)
-  four-last a b c d (suc (suc zero)) other = absurd (other.1 refl)
-  four-last a b c d (suc (suc (suc n))) other = refl
+-- a table of choices keeps the law if each choice stands at its own code
+module _ {A : Type 0} (code : A → ℕ) where
+  four-choices : (a b c d : A) → code a ≡ 0 → code b ≡ 1 → code c ≡ 2 → code d ≡ 3 → ((x : A) → (code x < 4) × (four a b c d (code x) ≡ x)) → ThereAndBack 4 code (four a b c d)
+  four-choices a b c d p q r s named = record { fits = λ x. (named x).0; back = λ x. (named x).1; again = each }
+    where
+      each : (n : ℕ) → n < 4 → code (four a b c d n) ≡ n
+      each zero h = p
+      each (suc zero) h = q
+      each (suc (suc zero)) h = r
+      each (suc (suc (suc n))) h = s ∙ omega arith
 
-  pub two-last : (a b : A) (n : ℕ) → Unit {0} × (n ≡ 0 → ⊥) → b ≡ two a b n
-  two-last a b zero other = absurd (other.1 refl)
-  two-last a b (suc n) other = refl
-
-  -- a table of choices keeps the law if each choice stands at its own code
-  module _ (code : A → ℕ) where
-    four-choices : (a b c d : A) → code a ≡ 0 → code b ≡ 1 → code c ≡ 2 → code d ≡ 3 → ((x : A) → (code x < 4) × (four a b c d (code x) ≡ x)) → ThereAndBack 4 code (four a b c d)
-    four-choices a b c d p q r s named = record { fits = λ x. (named x).0; back = λ x. (named x).1; again = each }
-      where
-        each : (n : ℕ) → n < 4 → code (four a b c d n) ≡ n
-        each zero h = p
-        each (suc zero) h = q
-        each (suc (suc zero)) h = r
-        each (suc (suc (suc n))) h = s ∙ omega arith
-
-    two-choices : (a b : A) → code a ≡ 0 → code b ≡ 1 → ((x : A) → (code x < 2) × (two a b (code x) ≡ x)) → ThereAndBack 2 code (two a b)
-    two-choices a b p q named = record { fits = λ x. (named x).0; back = λ x. (named x).1; again = each }
-      where
-        each : (n : ℕ) → n < 2 → code (two a b n) ≡ n
-        each zero h = p
-        each (suc n) h = q ∙ omega arith
+  two-choices : (a b : A) → code a ≡ 0 → code b ≡ 1 → ((x : A) → (code x < 2) × (two a b (code x) ≡ x)) → ThereAndBack 2 code (two a b)
+  two-choices a b p q named = record { fits = λ x. (named x).0; back = λ x. (named x).1; again = each }
+    where
+      each : (n : ℕ) → n < 2 → code (two a b n) ≡ n
+      each zero h = p
+      each (suc n) h = q ∙ omega arith
 
 pub speed_codes : ThereAndBack 4 speed_code speed_of
 speed_codes = four-choices speed_code Speed.Khz48 Speed.Khz96 Speed.Khz192 Speed.Khz384 refl refl refl refl named
@@ -62,13 +50,13 @@ speed_codes = four-choices speed_code Speed.Khz48 Speed.Khz96 Speed.Khz192 Speed
     named Speed.Khz384 = (omega arith, refl)
 
 pub source10_codes : ThereAndBack 4 found_source10_code source10_of
-source10_codes = four-choices found_source10_code (FoundSource10.Named Source10.AtlasOrExcalibur) (FoundSource10.Named Source10.Penelope) (FoundSource10.Named Source10.Mercury) FoundSource10.Unassigned refl refl refl refl named
+source10_codes = four-choices found_source10_code (Ok Source10.AtlasOrExcalibur) (Ok Source10.Penelope) (Ok Source10.Mercury) (Err no_choice) refl refl refl refl named
   where
-    named : (x : FoundSource10) → (found_source10_code x < 4) × (source10_of (found_source10_code x) ≡ x)
-    named (FoundSource10.Named Source10.AtlasOrExcalibur) = (omega arith, refl)
-    named (FoundSource10.Named Source10.Penelope) = (omega arith, refl)
-    named (FoundSource10.Named Source10.Mercury) = (omega arith, refl)
-    named FoundSource10.Unassigned = (omega arith, refl)
+    named : (x : Result Source10 Unassigned) → (found_source10_code x < 4) × (source10_of (found_source10_code x) ≡ x)
+    named (Ok Source10.AtlasOrExcalibur) = (omega arith, refl)
+    named (Ok Source10.Penelope) = (omega arith, refl)
+    named (Ok Source10.Mercury) = (omega arith, refl)
+    named (Err none) = (omega arith, refl)
 
 pub source122_codes : ThereAndBack 2 source122_code source122_of
 source122_codes = two-choices source122_code Source122.Penelope Source122.Mercury refl refl named
@@ -112,13 +100,13 @@ antenna_codes = four-choices antenna_code Antenna.Unused Antenna.Rx1 Antenna.Rx2
     named Antenna.Xv = (omega arith, refl)
 
 pub relay_codes : ThereAndBack 4 found_relay_code relay_of
-relay_codes = four-choices found_relay_code (FoundRelay.Named Relay.Tx1) (FoundRelay.Named Relay.Tx2) (FoundRelay.Named Relay.Tx3) FoundRelay.Unassigned refl refl refl refl named
+relay_codes = four-choices found_relay_code (Ok Relay.Tx1) (Ok Relay.Tx2) (Ok Relay.Tx3) (Err no_choice) refl refl refl refl named
   where
-    named : (x : FoundRelay) → (found_relay_code x < 4) × (relay_of (found_relay_code x) ≡ x)
-    named (FoundRelay.Named Relay.Tx1) = (omega arith, refl)
-    named (FoundRelay.Named Relay.Tx2) = (omega arith, refl)
-    named (FoundRelay.Named Relay.Tx3) = (omega arith, refl)
-    named FoundRelay.Unassigned = (omega arith, refl)
+    named : (x : Result Relay Unassigned) → (found_relay_code x < 4) × (relay_of (found_relay_code x) ≡ x)
+    named (Ok Relay.Tx1) = (omega arith, refl)
+    named (Ok Relay.Tx2) = (omega arith, refl)
+    named (Ok Relay.Tx3) = (omega arith, refl)
+    named (Err none) = (omega arith, refl)
 
 pub jack_codes : ThereAndBack 2 jack_code jack_of
 jack_codes = two-choices jack_code Jack.PttToRing Jack.PttToTip refl refl named

@@ -1,17 +1,20 @@
 -- Document 01, "Words from the host", and T-07: the named choices, each with its code, and the way back from a code. Assumes nothing.
-use Rattle.std.specs.Prelude.{ℕ}
+use Rattle.std.specs.Prelude.{ℕ, Result, Ok, Err}
 use Rattle.wire.specs.Choice.{four, two}
 use Rattle.host_record.specs.declared.choices.Speed.{Speed}
 use Rattle.host_record.specs.declared.choices.Source10.{Source10}
-use Rattle.host_record.specs.declared.choices.FoundSource10.{FoundSource10}
 use Rattle.host_record.specs.declared.choices.Source122.{Source122}
 use Rattle.host_record.specs.declared.choices.Boards.{Boards}
 use Rattle.host_record.specs.declared.choices.Microphone.{Microphone}
 use Rattle.host_record.specs.declared.choices.Attenuator.{Attenuator}
 use Rattle.host_record.specs.declared.choices.Antenna.{Antenna}
 use Rattle.host_record.specs.declared.choices.Relay.{Relay}
-use Rattle.host_record.specs.declared.choices.FoundRelay.{FoundRelay}
 use Rattle.host_record.specs.declared.choices.Jack.{Jack}
+use Rattle.host_record.specs.declared.choices.Unassigned.{Unassigned}
+
+-- a code that names no choice
+abbrev pub no_choice : Unassigned
+no_choice = record {}
 
 -- "speed 48/96/192/384 kHz (codes 0 to 3)"
 abbrev pub speed_code : Speed → ℕ
@@ -29,14 +32,13 @@ source10_code Source10.AtlasOrExcalibur = 0
 source10_code Source10.Penelope = 1
 source10_code Source10.Mercury = 2
 
-abbrev pub source10_of : ℕ → FoundSource10
-source10_of =
-    four (FoundSource10.Named Source10.AtlasOrExcalibur) (FoundSource10.Named Source10.Penelope) (FoundSource10.Named Source10.Mercury) FoundSource10.Unassigned
+abbrev pub source10_of : ℕ → Result Source10 Unassigned
+source10_of = four (Ok Source10.AtlasOrExcalibur) (Ok Source10.Penelope) (Ok Source10.Mercury) (Err no_choice)
 
 -- a code as it was found, the unassigned one among them
-abbrev pub found_source10_code : FoundSource10 → ℕ
-found_source10_code (FoundSource10.Named source) = source10_code source
-found_source10_code FoundSource10.Unassigned = 3
+abbrev pub found_source10_code : Result Source10 Unassigned → ℕ
+found_source10_code (Ok source) = source10_code source
+found_source10_code (Err none) = 3
 
 abbrev pub source122_code : Source122 → ℕ
 source122_code Source122.Penelope = 0
@@ -86,12 +88,12 @@ relay_code Relay.Tx1 = 0
 relay_code Relay.Tx2 = 1
 relay_code Relay.Tx3 = 2
 
-abbrev pub relay_of : ℕ → FoundRelay
-relay_of = four (FoundRelay.Named Relay.Tx1) (FoundRelay.Named Relay.Tx2) (FoundRelay.Named Relay.Tx3) FoundRelay.Unassigned
+abbrev pub relay_of : ℕ → Result Relay Unassigned
+relay_of = four (Ok Relay.Tx1) (Ok Relay.Tx2) (Ok Relay.Tx3) (Err no_choice)
 
-abbrev pub found_relay_code : FoundRelay → ℕ
-found_relay_code (FoundRelay.Named relay) = relay_code relay
-found_relay_code FoundRelay.Unassigned = 3
+abbrev pub found_relay_code : Result Relay Unassigned → ℕ
+found_relay_code (Ok relay) = relay_code relay
+found_relay_code (Err none) = 3
 
 -- T-07, "the Orion tip and ring choice"; document 001 has its codes: 0 is PTT to ring and microphone to tip, 1 the reverse
 abbrev pub jack_code : Jack → ℕ

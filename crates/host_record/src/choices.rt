@@ -1,4 +1,4 @@
-// The named choices of the host record, each with its code on the wire.
+// The named choices of the host record, each with its code on the wire by a match, as document 01 has it.
 ghost use Rattle.std.specs.Prelude.{◌≡◌, ◌<◌};
 ghost use Rattle.host_record.specs.Choices.{speed_code, speed_of, source10_code, source10_of, source122_code, source122_of, boards_code, boards_of, microphone_code, microphone_of, attenuator_code, attenuator_of, antenna_code, antenna_of, relay_code, relay_of, jack_code, jack_of};
 
@@ -16,13 +16,6 @@ pub enum Source10 {
     AtlasOrExcalibur,
     Penelope,
     Mercury,
-}
-
-// Code 3 names no source.
-#[derive(Clone, Copy)]
-pub enum FoundSource10 {
-    Named(Source10),
-    Unassigned,
 }
 
 // Where the 122.88 MHz clock comes from.
@@ -69,35 +62,35 @@ pub enum Relay {
     Tx3,
 }
 
-// Code 3 names no relay.
-#[derive(Clone, Copy)]
-pub enum FoundRelay {
-    Named(Relay),
-    Unassigned,
-}
-
 // Orion's microphone jack: the contact that the PTT goes to; the microphone goes to the other.
-#[derive(Clone, Copy)]
+#[derive(Clone, Copy, Default)]
 pub enum Jack {
+    #[default]
     PttToRing,
     PttToTip,
 }
 
-impl Speed {
-    pub fn code(self) -> u8
-        ensures { (result ≡ speed_code self) × (result < 4) }
-    {
-        match self {
+// A code that names no choice: code 3 of the 10 MHz source, and of the transmit relay.
+#[derive(Clone, Copy)]
+pub struct Unassigned;
+
+impl From<Speed> for u8 {
+    ghost from_gives = { λ speed code. (code ≡ speed_code speed) × (code < 4) };
+
+    fn from(speed: Speed) -> u8 {
+        match speed {
             Speed::Khz48 => 0,
             Speed::Khz96 => 1,
             Speed::Khz192 => 2,
             Speed::Khz384 => 3,
         }
     }
+}
 
-    pub fn of(code: u8) -> Speed
-        ensures { result ≡ speed_of code }
-    {
+impl From<u8> for Speed {
+    ghost from_gives = { λ code speed. speed ≡ speed_of code };
+
+    fn from(code: u8) -> Speed {
         match code {
             0 => Speed::Khz48,
             1 => Speed::Khz96,
@@ -107,42 +100,48 @@ impl Speed {
     }
 }
 
-impl Source10 {
-    pub fn code(self) -> u8
-        ensures { (result ≡ source10_code self) × (result < 4) }
-    {
-        match self {
+impl From<Source10> for u8 {
+    ghost from_gives = { λ source10 code. (code ≡ source10_code source10) × (code < 4) };
+
+    fn from(source10: Source10) -> u8 {
+        match source10 {
             Source10::AtlasOrExcalibur => 0,
             Source10::Penelope => 1,
             Source10::Mercury => 2,
         }
     }
+}
 
-    pub fn of(code: u8) -> FoundSource10
-        ensures { result ≡ source10_of code }
-    {
+impl TryFrom<u8> for Source10 {
+    type Error = Unassigned;
+
+    ghost try_from_gives = { λ code found. found ≡ source10_of code };
+
+    fn try_from(code: u8) -> Result<Source10, Unassigned> {
         match code {
-            0 => FoundSource10::Named(Source10::AtlasOrExcalibur),
-            1 => FoundSource10::Named(Source10::Penelope),
-            2 => FoundSource10::Named(Source10::Mercury),
-            _ => FoundSource10::Unassigned,
+            0 => Ok(Source10::AtlasOrExcalibur),
+            1 => Ok(Source10::Penelope),
+            2 => Ok(Source10::Mercury),
+            _ => Err(Unassigned),
         }
     }
 }
 
-impl Source122 {
-    pub fn code(self) -> u8
-        ensures { (result ≡ source122_code self) × (result < 2) }
-    {
-        match self {
+impl From<Source122> for u8 {
+    ghost from_gives = { λ source122 code. (code ≡ source122_code source122) × (code < 2) };
+
+    fn from(source122: Source122) -> u8 {
+        match source122 {
             Source122::Penelope => 0,
             Source122::Mercury => 1,
         }
     }
+}
 
-    pub fn of(code: u8) -> Source122
-        ensures { result ≡ source122_of code }
-    {
+impl From<u8> for Source122 {
+    ghost from_gives = { λ code source122. source122 ≡ source122_of code };
+
+    fn from(code: u8) -> Source122 {
         match code {
             0 => Source122::Penelope,
             _ => Source122::Mercury,
@@ -150,21 +149,23 @@ impl Source122 {
     }
 }
 
-impl Boards {
-    pub fn code(self) -> u8
-        ensures { (result ≡ boards_code self) × (result < 4) }
-    {
-        match self {
+impl From<Boards> for u8 {
+    ghost from_gives = { λ boards code. (code ≡ boards_code boards) × (code < 4) };
+
+    fn from(boards: Boards) -> u8 {
+        match boards {
             Boards::Neither => 0,
             Boards::Penelope => 1,
             Boards::Mercury => 2,
             Boards::Both => 3,
         }
     }
+}
 
-    pub fn of(code: u8) -> Boards
-        ensures { result ≡ boards_of code }
-    {
+impl From<u8> for Boards {
+    ghost from_gives = { λ code boards. boards ≡ boards_of code };
+
+    fn from(code: u8) -> Boards {
         match code {
             0 => Boards::Neither,
             1 => Boards::Penelope,
@@ -174,19 +175,21 @@ impl Boards {
     }
 }
 
-impl Microphone {
-    pub fn code(self) -> u8
-        ensures { (result ≡ microphone_code self) × (result < 2) }
-    {
-        match self {
+impl From<Microphone> for u8 {
+    ghost from_gives = { λ microphone code. (code ≡ microphone_code microphone) × (code < 2) };
+
+    fn from(microphone: Microphone) -> u8 {
+        match microphone {
             Microphone::Janus => 0,
             Microphone::Penelope => 1,
         }
     }
+}
 
-    pub fn of(code: u8) -> Microphone
-        ensures { result ≡ microphone_of code }
-    {
+impl From<u8> for Microphone {
+    ghost from_gives = { λ code microphone. microphone ≡ microphone_of code };
+
+    fn from(code: u8) -> Microphone {
         match code {
             0 => Microphone::Janus,
             _ => Microphone::Penelope,
@@ -194,21 +197,23 @@ impl Microphone {
     }
 }
 
-impl Attenuator {
-    pub fn code(self) -> u8
-        ensures { (result ≡ attenuator_code self) × (result < 4) }
-    {
-        match self {
+impl From<Attenuator> for u8 {
+    ghost from_gives = { λ attenuator code. (code ≡ attenuator_code attenuator) × (code < 4) };
+
+    fn from(attenuator: Attenuator) -> u8 {
+        match attenuator {
             Attenuator::Db0 => 0,
             Attenuator::Db10 => 1,
             Attenuator::Db20 => 2,
             Attenuator::Db30 => 3,
         }
     }
+}
 
-    pub fn of(code: u8) -> Attenuator
-        ensures { result ≡ attenuator_of code }
-    {
+impl From<u8> for Attenuator {
+    ghost from_gives = { λ code attenuator. attenuator ≡ attenuator_of code };
+
+    fn from(code: u8) -> Attenuator {
         match code {
             0 => Attenuator::Db0,
             1 => Attenuator::Db10,
@@ -218,21 +223,23 @@ impl Attenuator {
     }
 }
 
-impl Antenna {
-    pub fn code(self) -> u8
-        ensures { (result ≡ antenna_code self) × (result < 4) }
-    {
-        match self {
+impl From<Antenna> for u8 {
+    ghost from_gives = { λ antenna code. (code ≡ antenna_code antenna) × (code < 4) };
+
+    fn from(antenna: Antenna) -> u8 {
+        match antenna {
             Antenna::Unused => 0,
             Antenna::Rx1 => 1,
             Antenna::Rx2 => 2,
             Antenna::Xv => 3,
         }
     }
+}
 
-    pub fn of(code: u8) -> Antenna
-        ensures { result ≡ antenna_of code }
-    {
+impl From<u8> for Antenna {
+    ghost from_gives = { λ code antenna. antenna ≡ antenna_of code };
+
+    fn from(code: u8) -> Antenna {
         match code {
             0 => Antenna::Unused,
             1 => Antenna::Rx1,
@@ -242,42 +249,48 @@ impl Antenna {
     }
 }
 
-impl Relay {
-    pub fn code(self) -> u8
-        ensures { (result ≡ relay_code self) × (result < 4) }
-    {
-        match self {
+impl From<Relay> for u8 {
+    ghost from_gives = { λ relay code. (code ≡ relay_code relay) × (code < 4) };
+
+    fn from(relay: Relay) -> u8 {
+        match relay {
             Relay::Tx1 => 0,
             Relay::Tx2 => 1,
             Relay::Tx3 => 2,
         }
     }
+}
 
-    pub fn of(code: u8) -> FoundRelay
-        ensures { result ≡ relay_of code }
-    {
+impl TryFrom<u8> for Relay {
+    type Error = Unassigned;
+
+    ghost try_from_gives = { λ code found. found ≡ relay_of code };
+
+    fn try_from(code: u8) -> Result<Relay, Unassigned> {
         match code {
-            0 => FoundRelay::Named(Relay::Tx1),
-            1 => FoundRelay::Named(Relay::Tx2),
-            2 => FoundRelay::Named(Relay::Tx3),
-            _ => FoundRelay::Unassigned,
+            0 => Ok(Relay::Tx1),
+            1 => Ok(Relay::Tx2),
+            2 => Ok(Relay::Tx3),
+            _ => Err(Unassigned),
         }
     }
 }
 
-impl Jack {
-    pub fn code(self) -> u8
-        ensures { (result ≡ jack_code self) × (result < 2) }
-    {
-        match self {
+impl From<Jack> for u8 {
+    ghost from_gives = { λ jack code. (code ≡ jack_code jack) × (code < 2) };
+
+    fn from(jack: Jack) -> u8 {
+        match jack {
             Jack::PttToRing => 0,
             Jack::PttToTip => 1,
         }
     }
+}
 
-    pub fn of(code: u8) -> Jack
-        ensures { result ≡ jack_of code }
-    {
+impl From<u8> for Jack {
+    ghost from_gives = { λ code jack. jack ≡ jack_of code };
+
+    fn from(code: u8) -> Jack {
         match code {
             0 => Jack::PttToRing,
             _ => Jack::PttToTip,

@@ -7,7 +7,7 @@ use crate::choices::{
 };
 
 // Word 9's C2.
-#[derive(Clone, Copy)]
+#[derive(Clone, Copy, Default)]
 pub struct Controls {
     // of the microphone
     pub boost: bool,
@@ -23,7 +23,7 @@ pub struct Controls {
 }
 
 // Word 9's C3: the high-pass filters of 13, 20, 9.5, 6.5 and 1.5 MHz, and three switches beside them.
-#[derive(Clone, Copy)]
+#[derive(Clone, Copy, Default)]
 pub struct HighPass {
     pub mhz13: bool,
     pub mhz20: bool,
@@ -38,7 +38,7 @@ pub struct HighPass {
 }
 
 // Word 9's C4: the low-pass filters of 30/20, 60/40, 80, 160, 6, 12/10 and 17/15 m.
-#[derive(Clone, Copy)]
+#[derive(Clone, Copy, Default)]
 pub struct LowPass {
     pub m30: bool,
     pub m60: bool,
@@ -50,7 +50,7 @@ pub struct LowPass {
 }
 
 // Word 10: what stands before the receivers and the microphone.
-#[derive(Clone, Copy)]
+#[derive(Clone, Copy, Default)]
 pub struct Front {
     // of receivers 1 to 4; word 0's preamp is another
     pub preamp1: bool,
@@ -108,7 +108,7 @@ pub struct Host {
 }
 
 impl Host {
-    // What all-zero words give.
+    // What all-zero words give. Not a `Default`: that would have no receiver, which no word says.
     pub fn fresh() -> Host
         ensures { result ≡ fresh }
     {
@@ -135,48 +135,10 @@ impl Host {
             transmitter: 0,
             frequencies: [0; 7],
             drive: 0,
-            controls: Controls {
-                boost: false,
-                linein: false,
-                filter: false,
-                tuner: false,
-                tune: false,
-                board: false,
-                manual: false,
-                vna: false,
-            },
-            highpass: HighPass {
-                mhz13: false,
-                mhz20: false,
-                mhz9: false,
-                mhz6: false,
-                mhz1: false,
-                bypass: false,
-                amplifier: false,
-                trdisabled: false,
-            },
-            lowpass: LowPass {
-                m30: false,
-                m60: false,
-                m80: false,
-                m160: false,
-                m6: false,
-                m12: false,
-                m17: false,
-            },
-            front: Front {
-                preamp1: false,
-                preamp2: false,
-                preamp3: false,
-                preamp4: false,
-                jack: Jack::PttToRing,
-                bias: false,
-                pttdisabled: false,
-                gain: 0,
-                c2top: 0,
-                c3: 0,
-                c4: 0,
-            },
+            controls: Controls::default(),
+            highpass: HighPass::default(),
+            lowpass: LowPass::default(),
+            front: Front::default(),
         }
     }
 }
