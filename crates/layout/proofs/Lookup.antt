@@ -2,29 +2,32 @@
 use mathlib.Core.Path.{◌≡◌}
 use mathlib.Core.Bool.{true, false}
 use Prim.Native.Nat.{ℕ, ◌≤◌}
-use native.Mathlib.Omega.{arith}
 use borrow.Author.Tests.{leb-true}
 use lib.Dec.{leb}
+use Rattle.std.specs.Prelude.{Ok, Err}
 use Rattle.wire.proofs.Cases.{by_test, both_true}
-use Rattle.layout.specs.Slots.{counted, row_of, lookup}
-use Rattle.layout.specs.declared.Row.{Row}
-use Rattle.layout.specs.declared.Layout.TheVariants.{Of, BadCount}
+use Rattle.wire.specs.declared.Refusal.{Refusal}
+use Rattle.wire.specs.declared.Refusal.TheVariants.{BadCount}
+use Rattle.layout.specs.Slots.{counted}
+use Rattle.layout.specs.Table.{row_of, lookup}
+use Rattle.layout.specs.declared.row.Row.{Row}
 
 pub range : (n : ℕ) → counted n ≡ true → (1 ≤ n) × (n ≤ 8)
 range n is = let both = both_true (leb 1 n) (leb n 8) is in (leb-true 1 n both.0, leb-true n 8 both.1)
 
 module _ (n : ℕ) where
-  row_of_counted : counted n ≡ true → lookup n ≡ Of (row_of n)
+  row_of_counted : counted n ≡ true → lookup n ≡ Ok (row_of n)
   row_of_counted is = rw is
 
-  none_of_other : counted n ≡ false → lookup n ≡ BadCount
+  none_of_other : counted n ≡ false → lookup n ≡ Err BadCount
   none_of_other isn't = rw isn't
 
-  pub found : (r : Row) → lookup n ≡ Of r → (counted n ≡ true) × (r ≡ row_of n)
+  pub found : (r : Row) → lookup n ≡ Ok r → (counted n ≡ true) × (r ≡ row_of n)
   found r e =
       by_test (counted n) (λ is. (is, (let same = row_of_counted is in cc)))
-      (λ isn't. let other = none_of_other isn't in let never : ◌≡◌ {A = ℕ} 0 1 = cc in absurd (omega arith))
+      (λ isn't. let other = none_of_other isn't in cc)
 
-  pub not_found : lookup n ≡ BadCount → counted n ≡ false
-  not_found e =
-      by_test (counted n) (λ is. let other = row_of_counted is in let never : ◌≡◌ {A = ℕ} 0 1 = cc in absurd (omega arith)) (λ isn't. isn't)
+  -- its only refusal is BAD_COUNT
+  pub not_found : (e : Refusal) → lookup n ≡ Err e → (counted n ≡ false) × (e ≡ BadCount)
+  not_found e is =
+      by_test (counted n) (λ counts. let other = row_of_counted counts in cc) (λ isn't. (isn't, (let same = none_of_other isn't in cc)))

@@ -23,6 +23,12 @@ module _ (n : ℕ) where
   pub few_slots : slots n + slots n ≤ 504
   few_slots = let e = whole_payload n in let h = mul-le-mul_left {m = 2} {n = slot n} (slots n) (omega arith) in omega arith
 
+  pub few_pairs : n * slots n ≤ 252
+  few_pairs =
+      let e = whole_payload n in
+      let h = mul-le-mul_left {m = 2 * n} {n = slot n} (slots n) (omega arith) in
+      rw (mul_comm n (slots n)) (omega arith)
+
   pub few_values : values n ≤ 504
   few_values =
       let e = whole_payload n in

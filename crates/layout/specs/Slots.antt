@@ -1,8 +1,5 @@
 -- Document 01, "Frame and slots": a radio slot for n receivers, and how many fill the 504 bytes of payload. Assumes nothing.
-use Rattle.std.specs.Prelude.{ℕ, ◌+◌, ◌*◌, ◌/◌, ◌%◌, Bool, cond, ◌&&◌, leb}
-use Rattle.layout.specs.declared.Row.{Row}
-use Rattle.layout.specs.declared.Layout.{Layout}
-use Rattle.layout.specs.declared.Layout.TheVariants.{Of, BadCount}
+use Rattle.std.specs.Prelude.{ℕ, ◌+◌, ◌*◌, ◌/◌, ◌%◌, ◌≡◌, Bool, ◌&&◌, leb}
 
 -- "I then Q (3 bytes each) for receiver 1 to n, then 2 microphone bytes"
 abbrev pub slot : ℕ → ℕ
@@ -19,11 +16,11 @@ padding n = 504 % slot n
 abbrev pub counted : ℕ → Bool
 counted n = leb 1 n && leb n 8
 
-abbrev pub row_of : ℕ → Row
-row_of n = record { slot = slot n; slots = slots n; padding = padding n }
-
-abbrev pub lookup : ℕ → Layout
-lookup n = cond (counted n) (Of (row_of n)) BadCount
+-- the three numbers of a row are those of n receivers
+pub record FollowsRule (n bytes count rest : ℕ) : Type 0 where
+  pub slot_is : bytes ≡ slot n
+  pub slots_is : count ≡ slots n
+  pub padding_is : rest ≡ padding n
 
 -- the I and Q values of a frame, "in slot order, 2·n·slots of them"; the microphone has one a slot
 abbrev pub values : ℕ → ℕ

@@ -5,23 +5,13 @@
 // rule of the protocol (as many whole slots as fit, the rest padding) is proved once, over the table.
 #![tactic(auto)]
 
+mod row;
+
 ghost use Rattle.std.specs.Prelude.{◌≡◌};
-ghost use Rattle.layout.specs.Slots.{lookup};
+ghost use Rattle.layout.specs.Table.{lookup};
 
-// A slot's bytes, the slots of a payload, and the bytes of padding after them.
-#[derive(Clone, Copy)]
-pub struct Row {
-    pub slot: usize,
-    pub slots: usize,
-    pub padding: usize,
-}
-
-// The row of a number of receivers, or that there is none: the number is not 1 to 8.
-#[derive(Clone, Copy)]
-pub enum Layout {
-    Of(Row),
-    BadCount,
-}
+pub use row::Row;
+use wire::Refusal;
 
 // A row as the table has it. Its numbers are small, and so is the table, which the compiler lays on the stack
 // wherever a row is looked up.
@@ -75,17 +65,20 @@ const ROWS: [Entry; 8] = [
     },
 ];
 
-pub fn row_of(receivers: usize) -> Layout
+// The row of a number of receivers, or that there is none: the number is not 1 to 8.
+pub fn row_of(receivers: usize) -> Result<Row, Refusal>
     ensures { result ≡ lookup receivers }
 {
     if receivers < 1 {
-        return Layout::BadCount;
+        return Err(Refusal::BadCount);
     }
     if 8 < receivers {
-        return Layout::BadCount;
+        return Err(Refusal::BadCount);
     }
+    // no `From`: an entry alone does not know its receivers
     let entry = ROWS[receivers - 1];
-    Layout::Of(Row {
+    Ok(Row {
+        receivers,
         slot: entry.slot as usize,
         slots: entry.slots as usize,
         padding: entry.padding as usize,
