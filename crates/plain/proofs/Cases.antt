@@ -1,16 +1,15 @@
 -- `plain_of`, case by case, and what an accepted call tells. Assumes nothing.
-use mathlib.Core.Path.{◌≡◌, ap, ◌∙◌, subst⁻¹}
+use mathlib.Core.Path.{◌≡◌, ◌∙◌, subst⁻¹}
 use mathlib.Core.List.{List, [], ◌∷◌}
 use Prim.Native.Nat.{ℕ, ◌<◌, ◌≤◌}
-use native.Mathlib.Omega.{arith}
 use borrow.Author.Tests.{lt-ltb, le-ltb}
 use lib.Dec.{ltb}
 use lib.ListN.{length}
 use Rattle.wire.proofs.Cases.{by_order}
 use Rattle.wire.proofs.First.{first-here, first-later, none_accepted}
-use Rattle.wire.specs.Answers.{Test, ◌gives◌, first, number_of}
-use Rattle.wire.specs.declared.Answer.{Answer}
-use Rattle.wire.specs.declared.Answer.TheVariants.{Accepted, Length, ShortBuffer}
+use Rattle.std.specs.Prelude.{Err}
+use Rattle.wire.specs.Answers.{Answer, Accepted, Test, ◌gives◌, first}
+use Rattle.wire.specs.declared.Refusal.TheVariants.{Length, ShortBuffer}
 use Rattle.reading.specs.Reading.{reading}
 use Rattle.plain.specs.Plain.{Outcome, refusals, refused, accepted, plain_of}
 
@@ -32,14 +31,14 @@ module _ (input output : List ℕ) where
   abbrev fits : Type 0
   fits = Passes (length input) (length output)
 
-  pub input_too_long : 65536 < length input → plain_of input output ≡ refused Length output
+  pub input_too_long : 65536 < length input → plain_of input output ≡ refused (Err Length) output
   unfolding plain_of
   input_too_long long = rw (lt-ltb 65536 (length input) long)
 
-  pub output_too_short : length input ≤ 65536 → length output < length input → plain_of input output ≡ refused ShortBuffer output
+  pub output_too_short : length input ≤ 65536 → length output < length input → plain_of input output ≡ refused (Err ShortBuffer) output
   unfolding plain_of
   output_too_short short small =
-      let is : answer ≡ ShortBuffer =
+      let is : answer ≡ Err ShortBuffer =
       first-later too_long (no_room ∷ []) (le-ltb 65536 (length input) short) ∙ first-here no_room [] (lt-ltb (length output) (length input) small) in
       rw is
 
@@ -51,7 +50,7 @@ module _ (input output : List ℕ) where
       rw is
 
   -- what holds of both refusals, and of a call that no test refuses, holds of every call
-  pub by_outcome : (P : Outcome → Type 0) → P (refused Length output) → P (refused ShortBuffer output) → (fits → P (accepted (reading input) output)) → P (plain_of input output)
+  pub by_outcome : (P : Outcome → Type 0) → P (refused (Err Length) output) → P (refused (Err ShortBuffer) output) → (fits → P (accepted (reading input) output)) → P (plain_of input output)
   by_outcome P at_length at-short at-accepted =
       by_order 65536 (length input) (λ long. subst⁻¹ P (input_too_long long) at_length)
       (λ short.
@@ -60,6 +59,4 @@ module _ (input output : List ℕ) where
 
   pub accepted_passes : (plain_of input output).answer ≡ Accepted → fits
   accepted_passes =
-      by_outcome (λ o. o.answer ≡ Accepted → fits) (λ e. let none = ap number_of e in absurd (omega (arith, none)))
-      (λ e. let none = ap number_of e in absurd (omega (arith, none)))
-      (λ passes e. passes)
+      by_outcome (λ o. o.answer ≡ Accepted → fits) (λ e. absurd (cc)) (λ e. absurd (cc)) (λ passes e. passes)

@@ -4,8 +4,7 @@ use mathlib.Core.List.{List}
 use Prim.Native.Nat.{ℕ, ◌+◌, ◌*◌}
 use native.Mathlib.Omega.{arith}
 use lib.ListN.{length}
-use Rattle.wire.specs.Answers.{place_of}
-use Rattle.wire.specs.declared.Answer.TheVariants.{Accepted}
+use Rattle.wire.specs.Answers.{Accepted, place_of}
 use Rattle.reading.proofs.Readings.{counted}
 use Rattle.plain.specs.Plain.{Outcome, Few, plain_of}
 use Rattle.plain.proofs.Cases.{by_outcome, reads, accepted_passes}

@@ -6,7 +6,7 @@ use Prim.Native.Nat.{ℕ, ◌+◌, ◌-◌, ◌*◌, ◌<◌, ◌≤◌}
 use native.Mathlib.Omega.{arith}
 use lib.ListN.{length, take, drop, length-drop}
 use lib.Seq.{sets, length-take-le}
-use Rattle.wire.specs.declared.Answer.TheVariants.{Accepted}
+use Rattle.std.specs.Prelude.{Ok}
 use Rattle.wire.proofs.Copies.{written, all_written}
 use Rattle.wire.specs.Sync.{sync_at}
 use Rattle.reading.proofs.Readings.{good-long, left-length}
@@ -44,7 +44,7 @@ module _ {input output₀ output : List ℕ} {frames skipped place : ℕ} (here 
       let far = far_skip here.far none enough in
       record { far = far; place_is = omega (arith, here.place_is); in_list = far.in_list; as_long = far.as_long }
 
-  pub ends : length input < place + 515 → gave (record { answer = Accepted; frames = frames; skipped = skipped; left = length input - place }) output ≡ accepted (reading input) output₀
+  pub ends : length input < place + 515 → gave (Ok (record { frames = frames; skipped = skipped; left = length input - place })) output ≡ accepted (reading input) output₀
   ends few =
       let all = far_end here.far few in
       let counted : skipped ≡ place - 512 * frames = omega (arith, here.place_is) in

@@ -1,8 +1,8 @@
 -- T-10: an input of up to 65,536 bytes, read at once. Assumes nothing.
-use Rattle.std.specs.Prelude.{ℕ, ◌≤◌, cond, List, [], ◌∷◌, ◌++◌, ltb, length, drop}
-use Rattle.wire.specs.Answers.{Test, ◌gives◌, first, accepts}
-use Rattle.wire.specs.declared.Answer.{Answer}
-use Rattle.wire.specs.declared.Answer.TheVariants.{Accepted, Length, ShortBuffer}
+use Rattle.std.specs.Prelude.{ℕ, ◌≤◌, cond, List, [], ◌∷◌, ◌++◌, ltb, length, drop, Result, Ok, Err}
+use Rattle.wire.specs.Answers.{Answer, Accepted, Test, ◌gives◌, first, accepts}
+use Rattle.wire.specs.declared.Refusal.{Refusal}
+use Rattle.wire.specs.declared.Refusal.TheVariants.{Length, ShortBuffer}
 use Rattle.reading.specs.Reading.{Reading, reading}
 use Rattle.plain.specs.declared.Plain.{Plain}
 
@@ -15,10 +15,6 @@ pub record Outcome : Type 0 where
   pub left : ℕ
   pub output : List ℕ
 
--- what the call gave, with the output as it returned
-abbrev pub gave : Plain → List ℕ → Outcome
-gave r output = record { answer = r.answer; frames = r.frames; skipped = r.skipped; left = r.left; output = output }
-
 -- "LENGTH for a longer input, then SHORT_BUFFER for an output shorter than the input"
 abbrev pub refusals : List ℕ → List ℕ → List Test
 refusals input output =
@@ -29,6 +25,11 @@ refusals input output =
 -- "A refusal returns its number and ..; a frame count .. beside it is 0": so is each count here, and the output is the one given
 abbrev pub refused : Answer → List ℕ → Outcome
 refused refusal output = record { answer = refusal; frames = 0; skipped = 0; left = 0; output = output }
+
+-- what the call gave, with the output as it returned
+abbrev pub gave : Result Plain Refusal → List ℕ → Outcome
+gave (Ok r) output = record { answer = Accepted; frames = r.frames; skipped = r.skipped; left = r.left; output = output }
+gave (Err refusal) output = record { answer = Err refusal; frames = 0; skipped = 0; left = 0; output = output }
 
 -- the frames stand at the start of the output, which keeps its remainder
 abbrev pub accepted : Reading → List ℕ → Outcome

@@ -5,17 +5,17 @@
 ghost use Rattle.std.specs.Prelude.{◌≡◌};
 ghost use Rattle.plain.specs.Plain.{gave, plain_of};
 
-use wire::Answer;
+use wire::Refusal;
 use wire::copy::put;
 use wire::sync::sync_at;
 
 // No input is longer.
 pub const MOST: usize = 65536;
 
-// What a call gives back: the frames handed out, the bytes skipped, and how many are left at the end of the input.
+// What an accepted call gives back: the frames handed out, the bytes skipped, and how many are left at the end of the
+// input.
 #[derive(Clone, Copy)]
 pub struct Plain {
-    pub answer: Answer,
     pub frames: usize,
     pub skipped: usize,
     pub left: usize,
@@ -23,20 +23,21 @@ pub struct Plain {
 
 // "A place begins a good frame if sync stands there and again 512 bytes later. The reading starts at place 0. While at
 // least 515 bytes remain: at a good frame hand out its 512 bytes and go on 512; otherwise skip one byte."
-// The frames stand at the start of the output, which keeps its remainder.
-pub fn read(input: &[u8], output: &mut [u8]) -> Plain
+// The frames stand at the start of the output, which keeps its remainder. Refused, nothing is written.
+pub fn read(input: &[u8], output: &mut [u8]) -> Result<Plain, Refusal>
     ensures { gave result output.new ≡ plain_of input.now output.old }
 {
     let length = input.len();
     if MOST < length {
-        return refused(Answer::Length);
+        return Err(Refusal::Length);
     }
     if output.len() < length {
-        return refused(Answer::ShortBuffer);
+        return Err(Refusal::ShortBuffer);
     }
     let mut frames = 0;
     let mut skipped = 0;
     let mut place = 0;
+    // A step is of 512 bytes or of one, as the rule has it: no iterator's step is either of two.
     while 515 <= length - place {
         if sync_at(input, place) && sync_at(input, place + 512) {
             put(output, 512 * frames, &input[place..place + 512]);
@@ -47,22 +48,9 @@ pub fn read(input: &[u8], output: &mut [u8]) -> Plain
             place += 1;
         }
     }
-    Plain {
-        answer: Answer::Accepted,
+    Ok(Plain {
         frames,
         skipped,
         left: length - place,
-    }
-}
-
-// Nothing was written, and nothing is counted.
-pub(crate) fn refused(answer: Answer) -> Plain
-    ensures { result ≡ record { answer = answer; frames = 0; skipped = 0; left = 0 } }
-{
-    Plain {
-        answer,
-        frames: 0,
-        skipped: 0,
-        left: 0,
-    }
+    })
 }

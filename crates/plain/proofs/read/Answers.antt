@@ -11,11 +11,11 @@ use Rattle.plain.proofs.read.Goals.{else-sync_at-via-then-sync_at+else-sync_at-2
 
 pub returns-then-length-gt-MOST : goal.returns-then-length-gt-MOST
 returns-then-length-gt-MOST c =
-    rw c.refused.ensures (sym (input_too_long c.args.input.now c.args.output.now (omega arith)))
+    sym (input_too_long c.args.input.now c.args.output.now (omega arith))
 
 pub returns-then-output-length : goal.returns-then-output-length
 returns-then-output-length c =
-    rw c.refused-then-output-length.ensures (sym (output_too_short c.args.input.now c.args.output.now (omega arith) (omega arith)))
+    sym (output_too_short c.args.input.now c.args.output.now (omega arith) (omega arith))
 
 pub loop-place-preserved-then-sync_at-2 : goal.loop-place-preserved-then-sync_at-2
 loop-place-preserved-then-sync_at-2 c =
