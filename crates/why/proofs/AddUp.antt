@@ -15,10 +15,9 @@ use Rattle.reading.proofs.Readings.{good-long, counted, place_after}
 use Rattle.reading.proofs.UpTo.{comes_first, over_frame, over_byte, to_the_end}
 use Rattle.why.specs.Reasons.{IsTrueReason}
 use Rattle.why.specs.Sums.{is_inside, is_skipped, is_held, how_many, AddsUp}
-use Rattle.why.specs.Why.{skipped_for, why_of}
+use Rattle.why.specs.Why.{Why, skipped_for, why_of}
 use Rattle.why.specs.declared.Reason.{Reason}
 use Rattle.why.specs.declared.Reason.TheVariants.{Inside, Near, Far, Held}
-use Rattle.why.specs.declared.Why.{Why}
 use Rattle.why.proofs.Cases.{explains}
 use Rattle.why.proofs.OneReason.{no_two}
 use Rattle.why.proofs.Reasons.{skipping, the_reason}

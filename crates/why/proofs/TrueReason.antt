@@ -9,16 +9,15 @@ use lib.ListN.{length}
 use Rattle.wire.proofs.Cases.{by_test, by_order}
 use Rattle.wire.proofs.Named.{named_at}
 use Rattle.wire.specs.Sync.{sync_at}
-use Rattle.wire.specs.declared.Answer.TheVariants.{Accepted}
+use Rattle.wire.specs.Answers.{Accepted}
 use Rattle.reading.specs.Reading.{good}
 use Rattle.reading.specs.UpTo.{Comes}
 use Rattle.reading.proofs.Readings.{counted}
 use Rattle.reading.proofs.UpTo.{every_place, ends_here}
 use Rattle.why.specs.Reasons.{Skips, IsTrueReason}
-use Rattle.why.specs.Why.{wrong_byte, reason_of, why_of}
+use Rattle.why.specs.Why.{Why, wrong_byte, reason_of, why_of}
 use Rattle.why.specs.declared.Reason.{Reason}
 use Rattle.why.specs.declared.Reason.TheVariants.{Inside, Near, Far, Held}
-use Rattle.why.specs.declared.Why.{Why}
 use Rattle.why.proofs.Cases.{explains, accepted_passes}
 use Rattle.why.proofs.Reasons.{the_reason}
 

@@ -1,15 +1,14 @@
 -- T-05: the reason that is given for a place of an input of up to 65,536 bytes. Assumes nothing.
-use Rattle.std.specs.Prelude.{ℕ, ◌+◌, ◌-◌, ◌*◌, cond, List, [], ◌∷◌, leb, ltb, length, take, drop}
-use Rattle.wire.specs.Answers.{Test, ◌gives◌, first, accepts}
+use Rattle.std.specs.Prelude.{ℕ, ◌+◌, ◌-◌, ◌*◌, cond, List, [], ◌∷◌, leb, ltb, length, take, drop, Result, Ok, Err}
+use Rattle.wire.specs.Answers.{Answer, Accepted, Test, ◌gives◌, first, accepts}
 use Rattle.wire.specs.Places.{first_other}
 use Rattle.wire.specs.Sync.{sync_at}
-use Rattle.wire.specs.declared.Answer.{Answer}
-use Rattle.wire.specs.declared.Answer.TheVariants.{Accepted, Length, Range}
+use Rattle.wire.specs.declared.Refusal.{Refusal}
+use Rattle.wire.specs.declared.Refusal.TheVariants.{Length, Range}
 use Rattle.reading.specs.Reading.{good}
 use Rattle.reading.specs.UpTo.{up_to}
 use Rattle.why.specs.declared.Reason.{Reason}
 use Rattle.why.specs.declared.Reason.TheVariants.{NotGiven, Inside, Near, Far, Held}
-use Rattle.why.specs.declared.Why.{Why}
 
 -- the first of a sync's three bytes that is not 7F
 abbrev pub wrong_byte : List ℕ → ℕ → ℕ
@@ -38,6 +37,15 @@ refusals input place =
     ltb 65536 (length input) gives Length
     ∷ leb (length input) place gives Range
     ∷ []
+
+-- what a call gives: its answer, and the reason
+pub record Why : Type 0 where
+  pub answer : Answer
+  pub reason : Reason
+
+abbrev pub gave : Result Reason Refusal → Why
+gave (Ok reason) = record { answer = Accepted; reason = reason }
+gave (Err refusal) = record { answer = Err refusal; reason = NotGiven }
 
 -- beside a refusal no reason is given
 abbrev pub refused : Answer → Why

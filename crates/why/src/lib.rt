@@ -7,18 +7,19 @@ mod place;
 mod runs;
 
 ghost use Rattle.std.specs.Prelude.{◌≡◌, ◌<◌, ◌≤◌, length};
-ghost use Rattle.why.specs.Why.{why_of, reason_of, refused as refused_with};
+ghost use Rattle.why.specs.Why.{gave, why_of, reason_of};
 
 use place::{good_at, skipped};
 pub use runs::{Run, run_from};
-use wire::Answer;
+use wire::Refusal;
 
 // No input is longer.
 pub const MOST: usize = 65536;
 
 #[derive(Clone, Copy)]
 pub enum Reason {
-    // the call was refused
+    // None, as beside a refusal. No call of this crate gives it; it stays, since what writes a reason in words or as a
+    // number promises what it does with none.
     NotGiven,
     // inside the frame handed out that begins at this place
     Inside(usize),
@@ -30,28 +31,18 @@ pub enum Reason {
     Held,
 }
 
-#[derive(Clone, Copy)]
-pub struct Why {
-    pub answer: Answer,
-    pub reason: Reason,
-}
-
 // The reason of a place of an input of up to 65,536 bytes. The reading is followed once, as far as the place.
-pub fn explain(input: &[u8], place: usize) -> Why
-    ensures { result ≡ why_of input.now place }
+pub fn explain(input: &[u8], place: usize) -> Result<Reason, Refusal>
+    ensures { gave result ≡ why_of input.now place }
 {
     let length = input.len();
     if MOST < length {
-        return refused(Answer::Length);
+        return Err(Refusal::Length);
     }
     if length <= place {
-        return refused(Answer::Range);
+        return Err(Refusal::Range);
     }
-    let reason = followed(input, place);
-    Why {
-        answer: Answer::Accepted,
-        reason,
-    }
+    Ok(followed(input, place))
 }
 
 // "While at least 515 bytes remain: at a good frame hand out its 512 bytes and go on 512; otherwise skip one byte",
@@ -62,6 +53,7 @@ pub(crate) fn followed(input: &[u8], asked: usize) -> Reason
 {
     let length = input.len();
     let mut place = 0;
+    // A step is of 512 bytes or of one, as the rule has it: no iterator's step is either of two.
     while 515 <= length - place {
         if good_at(input, place) {
             if asked < place + 512 {
@@ -76,13 +68,4 @@ pub(crate) fn followed(input: &[u8], asked: usize) -> Reason
         }
     }
     Reason::Held
-}
-
-pub(crate) fn refused(refusal: Answer) -> Why
-    ensures { result ≡ refused_with refusal }
-{
-    Why {
-        answer: refusal,
-        reason: Reason::NotGiven,
-    }
 }

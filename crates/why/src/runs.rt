@@ -1,6 +1,6 @@
 // Runs: frames that are handed out one after another, bytes that are skipped one after another, and what is held.
 ghost use Rattle.std.specs.Prelude.{◌≡◌, ◌+◌, ◌≤◌, length};
-ghost use Rattle.why.specs.Runs.{held_up_to, going_of, run_of, step_by, run_end};
+ghost use Rattle.why.specs.Runs.{going_of, run_of, step_by, run_end};
 
 use crate::Reason;
 use crate::place::{good_at, skipped};
@@ -20,23 +20,13 @@ pub fn run_from(input: &[u8], start: usize) -> Run
     ensures { result ≡ run_of input.now start }
 {
     let length = input.len();
-    if length < 515 {
-        return rest(length);
-    }
-    if length - 515 < start {
-        return rest(length);
+    if length.saturating_sub(start) < 515 {
+        return Run {
+            reason: Reason::Held,
+            end: length,
+        };
     }
     going(input, start)
-}
-
-// What is held, as far as the end of the input.
-pub(crate) fn rest(length: usize) -> Run
-    ensures { result ≡ held_up_to length }
-{
-    Run {
-        reason: Reason::Held,
-        end: length,
-    }
 }
 
 // Frames or skipped bytes.
@@ -44,23 +34,23 @@ pub(crate) fn going(input: &[u8], start: usize) -> Run
     requires { start + 515 ≤ length input.now }
     ensures { result ≡ going_of input.now start }
 {
-    if good_at(input, start) {
-        let end = run_end(input, start, true, 512);
-        return Run {
-            reason: Reason::Inside(start),
-            end,
-        };
+    let begins = good_at(input, start);
+    Run {
+        reason: if begins {
+            Reason::Inside(start)
+        } else {
+            skipped(input, start)
+        },
+        end: run_end(input, start, begins),
     }
-    let reason = skipped(input, start);
-    let end = run_end(input, start, false, 1);
-    Run { reason, end }
 }
 
 // As long as the test goes the same way, step by step.
-pub(crate) fn run_end(input: &[u8], start: usize, begins: bool, step: usize) -> usize
-    requires { (start + 515 ≤ length input.now) × (step ≡ step_by begins) }
+pub(crate) fn run_end(input: &[u8], start: usize, begins: bool) -> usize
+    requires { start + 515 ≤ length input.now }
     ensures { result ≡ run_end input.now begins start }
 {
+    let step = step_by(begins);
     let mut place = start;
     while 515 <= input.len() - place {
         if good_at(input, place) != begins {
@@ -69,4 +59,11 @@ pub(crate) fn run_end(input: &[u8], start: usize, begins: bool, step: usize) -> 
         place += step;
     }
     place
+}
+
+// "go on 512; otherwise skip one byte"
+pub(crate) fn step_by(begins: bool) -> usize
+    ensures { result ≡ step_by begins }
+{
+    if begins { 512 } else { 1 }
 }

@@ -7,12 +7,12 @@ use Rattle.why.proofs.explain.Goals as goal
 
 pub returns-then-length-gt-MOST : goal.returns-then-length-gt-MOST
 returns-then-length-gt-MOST c =
-    c.refused.ensures ∙ sym (input_too_long c.args.input.now c.args.place (omega arith))
+    sym (input_too_long c.args.input.now c.args.place (omega arith))
 
 pub returns-then-length-place : goal.returns-then-length-place
 returns-then-length-place c =
-    c.refused-then-length-place.ensures ∙ sym (place_too_far c.args.input.now c.args.place (omega arith) (omega arith))
+    sym (place_too_far c.args.input.now c.args.place (omega arith) (omega arith))
 
 pub returns : goal.returns
 returns c =
-    ap accepted c.followed-reason.ensures ∙ sym (explains c.args.input.now c.args.place (record { short = omega arith; inside = omega arith }))
+    ap accepted c.followed.ensures ∙ sym (explains c.args.input.now c.args.place (record { short = omega arith; inside = omega arith }))

@@ -12,7 +12,7 @@ returns-then-good_at-begins c =
 pub loop-place-preserved : goal.loop-place-preserved
 loop-place-preserved c =
     let some = some_step c.args.begins in
-    let step : c.args.step ≡ step_by c.args.begins = c.requires.1 in (
+    let step : c.step_by-step.result ≡ step_by c.args.begins = c.step_by-step.ensures in (
       omega arith,
       c.loop-place.invariant.1 ∙ goes_on c.args.input.now c.args.begins c.loop-place.place (omega arith) (rw (← c.good_at.ensures) c.if-good_at-begins.false) ∙ rw step,
     )

@@ -4,13 +4,9 @@ use native.Mathlib.Omega.{arith}
 use Rattle.why.proofs.RunSteps.{run_held_lem, run_going}
 use Rattle.why.proofs.runs.run_from.Goals as goal
 
-pub returns-then-length-lt515 : goal.returns-then-length-lt515
-returns-then-length-lt515 c =
-    c.rest.ensures ∙ sym (run_held_lem c.args.input.now c.args.start (omega arith))
-
-pub returns-then-length-start : goal.returns-then-length-start
-returns-then-length-start c =
-    c.rest-then-length-start.ensures ∙ sym (run_held_lem c.args.input.now c.args.start (omega arith))
+pub returns-then-saturating_sub-lt515 : goal.returns-then-saturating_sub-lt515
+returns-then-saturating_sub-lt515 c =
+    sym (run_held_lem c.args.input.now c.args.start (omega arith))
 
 pub returns : goal.returns
 returns c =
