@@ -4,6 +4,7 @@ pub mod Numbers
 pub mod Fields
 pub mod Choice
 pub mod Places
+pub mod Control
 pub mod Sync
 pub mod Every
 pub mod Lists

@@ -2,8 +2,9 @@
 ghost use Rattle.std.specs.Prelude.{◌≡◌, cond, ◌+◌, leb, length};
 ghost use Rattle.std.proofs.lemmas.List.Edits.{sets};
 
-// The bytes of `from` over those of `to`, from a place on; where they do not fit, nothing is written.
-pub fn put(to: &mut [u8], place: usize, from: &[u8])
+// The elements of `from` over those of `to`, from a place on; where they do not fit, nothing is written.
+#[tactic(auto, using(crate::proofs::Copies::copied_over, crate::proofs::Copies::none_written))]
+pub fn put<T: Copy>(to: &mut [T], place: usize, from: &[T])
     ensures { to.new ≡ cond (leb (place + length from.now) (length to.old)) (sets to.old place from.now) to.old }
 {
     if to.len() < from.len() {
@@ -12,9 +13,5 @@ pub fn put(to: &mut [u8], place: usize, from: &[u8])
     if to.len() - from.len() < place {
         return;
     }
-    let mut i = 0;
-    while i < from.len() {
-        to[place + i] = from[i];
-        i += 1;
-    }
+    to[place..place + from.len()].copy_from_slice(from);
 }

@@ -4,6 +4,7 @@
 // No function here has a `requires`: each takes what it is given. `specs/` has what each one means.
 #![tactic(auto)]
 
+pub mod control;
 pub mod copy;
 pub mod fields;
 pub mod numbers;

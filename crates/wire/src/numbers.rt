@@ -6,42 +6,32 @@ ghost use Rattle.wire.specs.Numbers.{be, bytes_of, signed, unsigned, fits, signe
 // The bytes of a number, the highest first.
 pub type Bytes2 = [u8; 2];
 
-pub type Bytes4 = [u8; 4];
+pub type Bytes3 = [u8; 3];
 
-// The bytes of a 24-bit sample, and whether the number that was given fits them.
-#[derive(Clone, Copy)]
-pub struct Written24 {
-    pub fits: bool,
-    pub bytes: [u8; 3],
-}
+pub type Bytes4 = [u8; 4];
 
 pub fn be16(a: u8, b: u8) -> u16
     ensures { result ≡ be (a ∷ b ∷ []) }
 {
-    (a as u16) * 256 + (b as u16)
+    u16::from_be_bytes([a, b])
 }
 
 pub fn be32(a: u8, b: u8, c: u8, d: u8) -> u32
     ensures { result ≡ be (a ∷ b ∷ c ∷ d ∷ []) }
 {
-    (a as u32) * 16777216 + (b as u32) * 65536 + (c as u32) * 256 + (d as u32)
+    u32::from_be_bytes([a, b, c, d])
 }
 
 pub fn bytes_of_u16(n: u16) -> Bytes2
     ensures { result ≡ bytes_of 2 n }
 {
-    [(n / 256 % 256) as u8, (n % 256) as u8]
+    n.to_be_bytes()
 }
 
 pub fn bytes_of_u32(n: u32) -> Bytes4
     ensures { result ≡ bytes_of 4 n }
 {
-    [
-        (n / 16777216 % 256) as u8,
-        (n / 65536 % 256) as u8,
-        (n / 256 % 256) as u8,
-        (n % 256) as u8,
-    ]
+    n.to_be_bytes()
 }
 
 // A microphone or audio sample, from its two bytes.
@@ -64,29 +54,23 @@ pub fn bytes_of_sample16(x: i16) -> Bytes2
     bytes_of_u16(pattern(x as i32, 0x1_0000) as u16)
 }
 
-// The three bytes hold x where it fits, and its lowest 24 bits where it does not.
-pub fn bytes_of_sample24(x: i32) -> Written24
-    ensures { result ≡ record { fits = fits 24 x; bytes = bytes_of 3 (unsigned 24 x) } }
+// The three bytes hold x where it fits, as `fits24` has it, and its lowest 24 bits where it does not.
+pub fn bytes_of_sample24(x: i32) -> Bytes3
+    ensures { result ≡ bytes_of 3 (unsigned 24 x) }
 {
     let n = pattern(x, 0x100_0000);
-    Written24 {
-        fits: fits24(x),
-        bytes: [
-            (n / 65536 % 256) as u8,
-            (n / 256 % 256) as u8,
-            (n % 256) as u8,
-        ],
-    }
+    [
+        (n / 65536 % 256) as u8,
+        (n / 256 % 256) as u8,
+        (n % 256) as u8,
+    ]
 }
 
 // Whether x is in -8,388,608 to 8,388,607.
 pub fn fits24(x: i32) -> bool
     ensures { result ≡ fits 24 x }
 {
-    if x < -8388608 {
-        return false;
-    }
-    x < 8388608
+    (-8388608 <= x) & (x < 8388608)
 }
 
 // Whether every one of xs fits, as `fits24` has it. It has no early way out, so that many are taken at a
@@ -95,11 +79,8 @@ pub fn all_fit24(xs: &[i32]) -> bool
     ensures { result ≡ all_fit xs.now }
 {
     let mut so_far = true;
-    let mut i = 0;
-    while i < xs.len() {
-        let fits = fits24(xs[i]);
-        so_far = so_far & fits;
-        i += 1;
+    for x in xs {
+        so_far = so_far & fits24(*x);
     }
     so_far
 }

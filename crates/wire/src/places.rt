@@ -7,12 +7,10 @@ ghost use Rattle.wire.specs.Places.{first_other};
 pub fn first_other(part: &[u8], due: u8) -> usize
     ensures { result ≡ first_other due part.now }
 {
-    let mut i = 0;
-    while i < part.len() {
-        if part[i] != due {
+    for (i, b) in part.iter().enumerate() {
+        if *b != due {
             return i;
         }
-        i += 1;
     }
-    i
+    part.len()
 }

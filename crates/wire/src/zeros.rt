@@ -7,10 +7,8 @@ pub fn all_zero(part: &[u8]) -> bool
     ensures { result ≡ all_zero part.now }
 {
     let mut so_far = true;
-    let mut i = 0;
-    while i < part.len() {
-        so_far = so_far & (part[i] == 0);
-        i += 1;
+    for b in part {
+        so_far = so_far & (*b == 0);
     }
     so_far
 }

@@ -1,9 +1,8 @@
 -- what the loop keeps
 -- `places::first_other` meets its contract: byte by byte, up to the first that is not due. Assumes nothing.
 use mathlib.Core.Bool.{Bool}
-use Prim.Native.Nat.{ℕ, ◌-◌}
+use Prim.Native.Nat.{ℕ}
 use lib.Dec.{eqb}
-use lib.ListN.{length}
 use Rattle.wire.proofs.FirstWrong.{Looked}
 use Rattle.wire.proofs.places.first_other.Given as goal
 
@@ -12,6 +11,3 @@ is due b = eqb b due
 
 abbrev pub invariant-loop-i : goal.invariant-loop-i
 invariant-loop-i l = Looked (is l.due) l.part l.i
-
-abbrev pub decreases-loop-i : goal.decreases-loop-i
-decreases-loop-i l = length l.part - l.i
