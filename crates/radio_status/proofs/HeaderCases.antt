@@ -1,9 +1,9 @@
 -- The header that is written: how long it is, and where it is laid and where not. Assumes nothing.
 use mathlib.Core.Path.{◌≡◌, ap, ◌∙◌}
-use mathlib.Core.Bool.{Bool, true, false, ◌&&◌}
+use mathlib.Core.Bool.{Bool, true, ◌&&◌}
 use mathlib.Core.List.{List}
-use Prim.Native.Nat.{ℕ, suc, ◌<◌, ◌≤◌}
-use borrow.Author.Tests.{le-leb, lt-leb, leb-true}
+use Prim.Native.Nat.{ℕ, suc, ◌≤◌}
+use borrow.Author.Tests.{le-leb, leb-true}
 use lib.Dec.{eqb, leb}
 use lib.ListN.{length}
 use lib.Seq.{sets}
@@ -60,20 +60,10 @@ module _ (s : Status) where
   pub writable : status_fits s ≡ true → Versioned s.versions × Leveled s
   writable fit = let both = both_true (versions_fit s.versions) (levels_fit s) fit in (versioned s.versions both.0, leveled both.1)
 
-module _ (s : Status) (w : ℕ) (frame : List ℕ) where
-  pub unwritable : status_fits s ≡ false → header_over s w frame ≡ frame
+module _ (s : Status) (w : ℕ) (frame : List ℕ) (fit : status_fits s ≡ true) (listed : w ≤ 4) where
+  header_put : header_over s w frame ≡ headed (key_byte s w) (word_bytes s w) frame
   unfolding header_over
-  unwritable out = rw out
+  header_put = rw (fit, le-leb w 4 listed)
 
-  module _ (fit : status_fits s ≡ true) where
-    pub bad_word : 4 < w → header_over s w frame ≡ frame
-    unfolding header_over
-    bad_word out = rw (fit, lt-leb w 4 out)
-
-    module _ (listed : w ≤ 4) where
-      pub header_put : header_over s w frame ≡ headed (key_byte s w) (word_bytes s w) frame
-      unfolding header_over
-      header_put = rw (fit, le-leb w 4 listed)
-
-      pub header-laid : 8 ≤ length frame → header_over s w frame ≡ sets frame 0 (header s w)
-      header-laid room = header_put ∙ with_room (key_byte s w) (word_bytes s w) frame room
+  pub header-laid : 8 ≤ length frame → header_over s w frame ≡ sets frame 0 (header s w)
+  header-laid room = header_put ∙ with_room (key_byte s w) (word_bytes s w) frame room

@@ -1,24 +1,20 @@
 -- A level is refused where its top four bits are not all 0, and is up to 4,095 where they are: what that says of two bytes, of a word, and
 -- of a record after a word. Assumes nothing.
-use mathlib.Core.Path.{◌≡◌, refl, sym, ap, subst⁻¹, ◌∙◌}
-use mathlib.Core.Bool.{Bool, true, false, cond, true≢false, false≢true}
+use mathlib.Core.Path.{◌≡◌, refl, subst⁻¹}
+use mathlib.Core.Bool.{Bool, true, false, cond}
 use Prim.Native.Nat.{ℕ, zero, suc, ◌<◌, ◌≤◌}
 use native.Mathlib.Omega.{arith}
 use borrow.Author.Tests.{eqb-true, ne_eqb, not-false}
-use Rattle.wire.specs.Answers.{first, accepts, number_of}
-use Rattle.wire.specs.declared.Answer.{Answer}
-use Rattle.wire.specs.declared.Answer.TheVariants.{Accepted, Reserved}
+use Rattle.std.specs.Prelude.{Ok, Err}
+use Rattle.wire.specs.Answers.{Answer, Accepted, first}
+use Rattle.wire.specs.declared.Refusal.{Refusal}
+use Rattle.wire.specs.declared.Refusal.TheVariants.{Reserved}
 use Rattle.wire.specs.declared.Cause.{Cause}
 use Rattle.wire.specs.declared.Cause.TheVariants.{Ain5, Ain1, Ain2, Ain3, Ain4, Ain6}
-use Rattle.wire.proofs.Cases.{by_test}
-use Rattle.wire.proofs.First.{accepts-only}
 use Rattle.radio_status.specs.Control.{Leveled, LeveledWord}
-use Rattle.radio_status.specs.Levels.{level, top_bits, top_set, level_of, both_or, level_tests}
+use Rattle.radio_status.specs.Levels.{level, top_bits, top_set, both_or, level_tests}
 use Rattle.radio_status.specs.Words.{word_at, keyed, carried, applied}
-use Rattle.radio_status.specs.declared.levels.Level.{Level}
-use Rattle.radio_status.specs.declared.levels.Level.TheVariants.{Twelve, Above}
 use Rattle.radio_status.specs.declared.levels.TwoLevels.{TwoLevels}
-use Rattle.radio_status.specs.declared.levels.Levels.{Levels}
 use Rattle.radio_status.specs.declared.record.Status.{Status}
 use Rattle.radio_status.specs.declared.words.Word.{Word}
 use Rattle.radio_status.specs.declared.words.Word.TheVariants.{Input, Forward, Reverse, Supply, Board, Unlisted}
@@ -28,63 +24,28 @@ use Rattle.radio_status.proofs.HeaderCases.{leveled, levels_fit_lem}
 pub twelve_bits : (high low : ℕ) → high < 256 → low < 256 → top_set high ≡ false → level high low ≤ 4095
 twelve_bits high low h l clear = let top : top_bits high ≡ 0 = eqb-true (top_bits high) 0 (not-false _ clear) in omega (arith, top, h, l)
 
--- what a level that was read tells of its bytes
-abbrev number_in : Level → ℕ
-number_in (Twelve n) = n
-number_in Above = 0
-
-abbrev is_number : Level → Bool
-is_number (Twelve n) = true
-is_number Above = false
-
-module _ (high low : ℕ) where
-  pub was_twelve : (n : ℕ) → level_of high low ≡ Twelve n → (top_set high ≡ false) × (n ≡ level high low)
-  was_twelve n is =
-      by_test (top_set high)
-      (λ set. absurd (false≢true (ap is_number (rw set at is))))
-      (λ clear. (clear, sym (ap number_in (rw clear at is))))
-
-  pub was_above : level_of high low ≡ Above → top_set high ≡ true
-  was_above is = by_test (top_set high) (λ set. set) (λ clear. absurd (true≢false (ap is_number (rw clear at is))))
-
 -- both levels by their tests: the first that holds is the answer
 abbrev first_of : Bool → Bool → Cause → Cause → Answer
-first_of x y a b = cond x (Reserved a) (cond y (Reserved b) Accepted)
+first_of x y a b = cond x (Err (Reserved a)) (cond y (Err (Reserved b)) Accepted)
 
 none_set : (x y : Bool) (a b : Cause) → first_of x y a b ≡ Accepted → (x ≡ false) × (y ≡ false)
-none_set true y a b is = absurd (let eight = ap number_of is in omega (arith, eight))
-none_set false true a b is = absurd (let eight = ap number_of is in omega (arith, eight))
+none_set true y a b is = cc
+none_set false true a b is = cc
 none_set false false a b is = (refl, refl)
 
 -- words 0, 4 and unlisted ones have no level to refuse
 pub no_levels : (at c1 c3 : ℕ) → (at ≡ 1 → ⊥) → (at ≡ 2 → ⊥) → (at ≡ 3 → ⊥) → first (level_tests at c1 c3) ≡ Accepted
 no_levels at c1 c3 not1 not2 not3 = rw (ne_eqb at 1 not1, ne_eqb at 2 not2, ne_eqb at 3 not3)
 
--- what was read of two levels tells of the answer: it accepts where both came, and a refusal is the answer itself
-abbrev is_both : Levels → Bool
-is_both (Levels.Both two) = true
-is_both (Levels.Refused a) = false
+-- what was read of two levels tells of the answer: it accepts where both came, and a refusal is the answer's
+module _ (two : TwoLevels) where
+  pub both_came : (answer : Answer) (r : TwoLevels) → both_or answer two ≡ Ok r → (answer ≡ Accepted) × (r ≡ two)
+  both_came (Ok _) r is = (refl, cc)
+  both_came (Err refusal) r is = cc
 
-abbrev both_or_lem : TwoLevels → Levels → TwoLevels
-both_or_lem other (Levels.Both two) = two
-both_or_lem other (Levels.Refused a) = other
-
-abbrev answer_in_lem : Levels → Answer
-answer_in_lem (Levels.Both two) = Accepted
-answer_in_lem (Levels.Refused a) = a
-
-module _ (answer : Answer) (two : TwoLevels) where
-  pub both_came : (r : TwoLevels) → both_or answer two ≡ Levels.Both r → (answer ≡ Accepted) × (r ≡ two)
-  both_came r is =
-      by_test (accepts answer)
-      (λ yes. (accepts-only answer yes, sym (ap (both_or_lem two) (rw yes at is))))
-      (λ isn't. absurd (false≢true (ap is_both (rw isn't at is))))
-
-  pub refused_by : (a : Answer) → both_or answer two ≡ Levels.Refused a → (answer ≡ a) × (accepts a ≡ false)
-  refused_by a is =
-      by_test (accepts answer)
-      (λ yes. absurd (true≢false (ap is_both (rw yes at is))))
-      (λ isn't. let same = ap answer_in_lem (rw isn't at is) in (same, sym (ap accepts same) ∙ isn't))
+  pub refused_by : (answer : Answer) (a : Refusal) → both_or answer two ≡ Err a → answer ≡ Err a
+  refused_by (Ok _) a is = cc
+  refused_by (Err refusal) a is = cc
 
 -- a word without a level above 4,095 puts none into a record
 levels-carried : (w : Word) → LeveledWord w → (s : Status) → Leveled s → Leveled (carried w s)

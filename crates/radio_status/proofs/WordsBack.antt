@@ -8,10 +8,9 @@ use native.Mathlib.Omega.{arith}
 use borrow.Author.Tests.{eq-eqb}
 use lib.Dec.{eqb}
 use lib.ListN.{get_or}
-use Rattle.wire.specs.Answers.{first}
+use Rattle.wire.specs.Answers.{Accepted, first}
 use Rattle.wire.specs.Fields.{flag, bits, on, fields, eight_flags}
 use Rattle.wire.specs.Numbers.{be, bytes_of}
-use Rattle.wire.specs.declared.Answer.TheVariants.{Accepted}
 use Rattle.wire.proofs.Bytes.{be-bytes_of}
 use Rattle.wire.proofs.Pack.{fields-pack, flag-on, flag-fits}
 use Rattle.radio_status.specs.Levels.{top_bits, top_set, level_tests}

@@ -9,7 +9,7 @@ use wire::sync::put_header;
 
 // Sync and C0 to C4 over the start of a frame. With a version above 127, a level above 4,095 or a word number
 // above 4, the frame is left as it is, and so is one with no room for them.
-#[tactic(auto, using(crate::proofs::HeaderCases::unwritable, crate::proofs::HeaderCases::bad_word))]
+#[tactic(auto, unfolding(crate::specs::Control::header_over))]
 pub fn write_header(status: Status, word: u8, frame: &mut [u8])
     ensures { frame.new ≡ header_over status word frame.old }
 {
@@ -30,19 +30,17 @@ pub(crate) fn key_byte(status: Status, word: u8) -> u8
     flag_of(status.ptt) + flag_of(status.dash) * 2 + flag_of(status.dot) * 4 + word * 8
 }
 
+#[tactic(auto, unfolding(crate::specs::Control::word_bytes))]
 pub(crate) fn word_bytes(status: Status, word: u8) -> [u8; 4]
     requires { Versioned status.versions }
     ensures { result ≡ word_bytes status word }
 {
-    let inputs = status.inputs;
-    let overflow = status.overflow;
-    let versions = status.versions;
     match word {
-        0 => input_bytes(overflow.adc1, inputs),
+        0 => input_bytes(status.overflow.adc1, status.inputs),
         1 => level_bytes(status.forward.ain5, status.forward.ain1),
         2 => level_bytes(status.reverse.ain2, status.reverse.ain3),
         3 => level_bytes(status.supply.ain4, status.supply.ain6),
-        _ => board_bytes(overflow, versions),
+        _ => board_bytes(status.overflow, status.versions),
     }
 }
 
@@ -65,9 +63,9 @@ fn input_bytes(adc1: bool, inputs: Inputs) -> [u8; 4]
 fn level_bytes(a: u16, b: u16) -> [u8; 4]
     ensures { result ≡ level_bytes a b }
 {
-    let high = bytes_of_u16(a);
-    let low = bytes_of_u16(b);
-    [high[0], high[1], low[0], low[1]]
+    let [c1, c2] = bytes_of_u16(a);
+    let [c3, c4] = bytes_of_u16(b);
+    [c1, c2, c3, c4]
 }
 
 pub(crate) fn board_bytes(overflow: Overflow, versions: Versions) -> [u8; 4]
@@ -93,16 +91,10 @@ pub(crate) fn board_byte(overflow: bool, version: u8) -> u8
 pub(crate) fn versions_fit(versions: Versions) -> bool
     ensures { result ≡ versions_fit versions }
 {
-    if 127 < versions.board1 {
-        return false;
-    }
-    if 127 < versions.board2 {
-        return false;
-    }
-    if 127 < versions.board3 {
-        return false;
-    }
-    versions.board4 <= 127
+    (versions.board1 <= 127)
+        & (versions.board2 <= 127)
+        & (versions.board3 <= 127)
+        & (versions.board4 <= 127)
 }
 
 // Whether each of the six levels fits its twelve bits.
@@ -124,10 +116,5 @@ pub(crate) fn levels_fit(status: Status) -> bool
 pub fn status_fits(status: Status) -> bool
     ensures { result ≡ status_fits status }
 {
-    let versions = status.versions;
-    if versions_fit(versions) {
-        levels_fit(status)
-    } else {
-        false
-    }
+    versions_fit(status.versions) & levels_fit(status)
 }

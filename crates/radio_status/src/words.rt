@@ -6,6 +6,8 @@ use crate::levels::TwoLevels;
 use crate::record::{
     ForwardLevels, Inputs, Overflow, ReverseLevels, Status, SupplyLevels, Versions,
 };
+use wire::control::Control;
+use wire::fields::{field, is_on};
 
 // Word 0 as it came: ADC 1's overflow, and the rest.
 #[derive(Clone, Copy)]
@@ -33,12 +35,12 @@ pub enum Word {
 }
 
 // The word that came. Of words 1 to 3 it has the levels that were read of their bytes.
-pub fn decode(c0: u8, c1: u8, c2: u8, c3: u8, c4: u8, levels: TwoLevels) -> Word
-    ensures { result ≡ word_with levels (address c0) c1 c2 c3 c4 }
+pub fn decode(control: Control, levels: TwoLevels) -> Word
+    ensures { result ≡ word_with levels (address control.c0) control.c1 control.c2 control.c3 control.c4 }
 {
-    let address = c0 / 8 % 32;
+    let address = field(control.c0, 7, 3);
     match address {
-        0 => Word::Input(input_word(c1, c2, c3, c4)),
+        0 => Word::Input(input_word(control)),
         1 => Word::Forward(ForwardLevels {
             ain5: levels.c1c2,
             ain1: levels.c3c4,
@@ -51,58 +53,60 @@ pub fn decode(c0: u8, c1: u8, c2: u8, c3: u8, c4: u8, levels: TwoLevels) -> Word
             ain4: levels.c1c2,
             ain6: levels.c3c4,
         }),
-        4 => Word::Board(board_word(c1, c2, c3, c4)),
+        4 => Word::Board(board_word(control)),
         _ => Word::Unlisted(address),
     }
 }
 
-fn input_word(c1: u8, c2: u8, c3: u8, c4: u8) -> InputWord
-    ensures { result ≡ input_word c1 c2 c3 c4 }
+fn input_word(control: Control) -> InputWord
+    ensures { result ≡ input_word control.c1 control.c2 control.c3 control.c4 }
 {
+    let c1 = control.c1;
     InputWord {
-        adc1: c1 % 2 == 1,
+        adc1: is_on(c1, 0),
         inputs: Inputs {
-            io1: c1 / 2 % 2 != 1,
-            io2: c1 / 4 % 2 != 1,
-            io3: c1 / 8 % 2 != 1,
-            io4: c1 / 16 % 2 != 1,
-            pll: c1 / 32 % 2 == 1,
-            toggle: c1 / 64 % 2 == 1,
-            mercury: c2,
-            penelope: c3,
-            main: c4,
+            io1: !is_on(c1, 1),
+            io2: !is_on(c1, 2),
+            io3: !is_on(c1, 3),
+            io4: !is_on(c1, 4),
+            pll: is_on(c1, 5),
+            toggle: is_on(c1, 6),
+            mercury: control.c2,
+            penelope: control.c3,
+            main: control.c4,
         },
     }
 }
 
-fn board_word(c1: u8, c2: u8, c3: u8, c4: u8) -> BoardWord
-    ensures { result ≡ board_word c1 c2 c3 c4 }
+fn board_word(control: Control) -> BoardWord
+    ensures { result ≡ board_word control.c1 control.c2 control.c3 control.c4 }
 {
     BoardWord {
         overflow: Overflow {
-            adc1: c1 % 2 == 1,
-            adc2: c2 % 2 == 1,
-            adc3: c3 % 2 == 1,
-            adc4: c4 % 2 == 1,
+            adc1: is_on(control.c1, 0),
+            adc2: is_on(control.c2, 0),
+            adc3: is_on(control.c3, 0),
+            adc4: is_on(control.c4, 0),
         },
         versions: Versions {
-            board1: c1 / 2 % 128,
-            board2: c2 / 2 % 128,
-            board3: c3 / 2 % 128,
-            board4: c4 / 2 % 128,
+            board1: field(control.c1, 7, 1),
+            board2: field(control.c2, 7, 1),
+            board3: field(control.c3, 7, 1),
+            board4: field(control.c4, 7, 1),
         },
     }
 }
 
 // The record after an accepted frame. DOT, DASH and PTT follow every word; an unlisted one carries
 // nothing else.
+#[tactic(auto, unfolding(crate::specs::Words::applied))]
 pub fn apply(status: Status, c0: u8, word: Word) -> Status
     ensures { result ≡ applied c0 word status }
 {
     let mut next = status;
-    next.dot = c0 / 4 % 2 == 1;
-    next.dash = c0 / 2 % 2 == 1;
-    next.ptt = c0 % 2 == 1;
+    next.dot = is_on(c0, 2);
+    next.dash = is_on(c0, 1);
+    next.ptt = is_on(c0, 0);
     let Word::Unlisted(_) = word else {
         return carry(next, word);
     };
@@ -116,9 +120,8 @@ fn carry(status: Status, word: Word) -> Status
     let mut next = status;
     match word {
         Word::Input(w) => {
-            let inputs = w.inputs;
             next.overflow.adc1 = w.adc1;
-            next.inputs = inputs;
+            next.inputs = w.inputs;
         }
         Word::Forward(levels) => {
             next.forward = levels;
@@ -130,10 +133,8 @@ fn carry(status: Status, word: Word) -> Status
             next.supply = levels;
         }
         Word::Board(w) => {
-            let overflow = w.overflow;
-            let versions = w.versions;
-            next.overflow = overflow;
-            next.versions = versions;
+            next.overflow = w.overflow;
+            next.versions = w.versions;
         }
         Word::Unlisted(_) => {}
     }
