@@ -1,16 +1,19 @@
 -- What is left in the cells, in its cases: too few of them, a refusal, and an accepted call. Assumes nothing.
-use mathlib.Core.Path.{◌≡◌, sym, ap, ◌∙◌}
+use mathlib.Core.Path.{◌≡◌, refl, sym, ◌∙◌}
 use mathlib.Core.Bool.{cond, true, false≢true}
-use mathlib.Core.List.{List}
+use mathlib.Core.List.{List, ◌++◌}
 use Prim.Native.Nat.{ℕ, ◌+◌, ◌<◌, ◌≤◌}
 use native.Mathlib.Omega.{arith}
 use borrow.Author.Tests.{ne_eqb, eq-eqb, lt-ltb, le-ltb, lt-leb, le-leb}
-use lib.ListN.{length}
+use lib.ListN.{length, drop}
 use lib.Seq.{sets}
 use Rattle.wire.proofs.Cases.{by_order}
-use Rattle.wire.specs.Answers.{number_of, accepts}
-use Rattle.wire.specs.declared.Answer.{Answer}
-use Rattle.cells.specs.Cells.{within, bad_state, kept, put_over, kept_over, wrote, offered}
+use Rattle.std.specs.Prelude.{Err, leb}
+use Rattle.wire.specs.Answers.{Answer, number_of, accepts}
+use Rattle.wire.specs.declared.Refusal.{Refusal}
+use Rattle.wire.proofs.First.{only_accepted}
+use Rattle.cells.specs.Cells.{within, bad_state, kept, put_over, wrote, offered}
+use Rattle.cells.proofs.Back.{over}
 use Rattle.cells.proofs.Tested.{too_few}
 
 -- what an answer picks
@@ -28,11 +31,19 @@ module _ (answer : Answer) (fields cells : List ℕ) where
   pub kept-accepted : number_of answer ≡ 0 → kept answer fields cells ≡ sets cells 0 fields
   kept-accepted accepted = if_accepted answer (sets cells 0 fields) cells accepted
 
+pub kept-err : (refusal : Refusal) (fields cells : List ℕ) → kept (Err refusal) fields cells ≡ cells
+kept-err refusal fields cells = kept-refused (Err refusal) fields cells (λ none. cc (only_accepted (Err refusal) none))
+
 -- cells that can be a record's are enough of them
 pub enough : (most cells : List ℕ) → within most cells ≡ true → length most ≤ length cells
 enough most cells fits = by_order (length cells) (length most) (λ few. absurd (false≢true (sym (too_few most cells few) ∙ fits))) (λ many. many)
 
 module _ (cells : List ℕ) (place : ℕ) (fields : List ℕ) where
+  -- what `wire::copy::put` leaves
+  pub put_is : cond (leb (place + length fields) (length cells)) (sets cells place fields) cells ≡ put_over cells place fields
+  unfolding put_over
+  put_is = refl
+
   pub put_few : length cells < place + length fields → put_over cells place fields ≡ cells
   unfolding put_over
   put_few few = rw (lt-leb (place + length fields) (length cells) few)
@@ -44,14 +55,14 @@ module _ (cells : List ℕ) (place : ℕ) (fields : List ℕ) where
 pub put_first : (cells fields : List ℕ) → length fields ≤ length cells → put_over cells 0 fields ≡ sets cells 0 fields
 put_first cells fields room = put_room cells 0 fields (omega arith)
 
-pub kept-room : (answer : Answer) (fields cells : List ℕ) → length fields ≤ length cells → kept_over answer fields cells ≡ kept answer fields cells
-kept-room answer fields cells room = ap (λ l. cond (accepts answer) l cells) (put_first cells fields room)
-
 module _ (fields cells : List ℕ) where
-  pub offered-few : length cells < length fields → offered fields cells ≡ wrote bad_state cells
+  pub offered_few : length cells < length fields → wrote bad_state cells ≡ offered fields cells
   unfolding offered
-  offered-few few = rw (lt-ltb (length cells) (length fields) few)
+  offered_few few = rw (lt-ltb (length cells) (length fields) few)
 
-  pub offered-room : length fields ≤ length cells → offered fields cells ≡ wrote 0 (sets cells 0 fields)
+  -- the fields copied over the first cells, with what stood behind those
+  pub offered_over : (copied : List ℕ) → copied ≡ fields → length fields ≤ length cells → wrote 0 (copied ++ drop (length fields) cells) ≡ offered fields cells
   unfolding offered
-  offered-room room = rw (le-ltb (length cells) (length fields) room)
+  offered_over copied same room =
+      let first : 0 + length fields ≡ length fields = omega arith in
+      rw (same, le-ltb (length cells) (length fields) room, over fields cells room, first)

@@ -1,6 +1,5 @@
 -- What is proved of records as cells.
 pub mod Tested
-pub mod Copied
 pub mod Joined
 pub mod Cases
 pub mod Back

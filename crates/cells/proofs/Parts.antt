@@ -2,8 +2,7 @@
 use mathlib.Core.Path.{◌≡◌, subst⁻¹}
 use Prim.Native.Nat.{ℕ, ◌+◌, ◌*◌, ◌/◌, ◌%◌, ◌^◌, ◌<◌}
 use native.Mathlib.Omega.{arith}
-use Rattle.wire.specs.Answers.{told, place_of}
-use Rattle.wire.specs.declared.Answer.{Answer}
+use Rattle.wire.specs.Answers.{Answer, told, place_of}
 use Rattle.wire.proofs.First.{few_numbers}
 use Rattle.cells.specs.Cells.{got, Tells}
 

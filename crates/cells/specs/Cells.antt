@@ -1,10 +1,10 @@
 -- Records as cells: a number for each field. Assumes nothing.
-use Rattle.std.specs.Prelude.{ℕ, ◌+◌, ◌*◌, ◌/◌, ◌%◌, ◌^◌, Bool, true, false, cond, ◌&&◌, List, [], ◌∷◌, ◌≡◌, eqb, leb, ltb, get_or, length}
+use Rattle.std.specs.Prelude.{ℕ, ◌+◌, ◌*◌, ◌/◌, ◌%◌, ◌^◌, Bool, true, false, cond, ◌&&◌, List, [], ◌∷◌, ◌≡◌, eqb, leb, ltb, get_or, length, Result, Ok, Err}
 use Rattle.std.proofs.lemmas.List.Edits.{sets}
 use mir.Val.{bool_byte}
-use Rattle.wire.specs.Answers.{number_of, place_of, accepts}
-use Rattle.wire.specs.declared.Answer.{Answer}
-use Rattle.wire.specs.declared.Answer.TheVariants.{BadState}
+use Rattle.wire.specs.Answers.{Answer, Accepted, number_of, place_of, accepts, told}
+use Rattle.wire.specs.declared.Refusal.{Refusal}
+use Rattle.wire.specs.declared.Refusal.TheVariants.{BadState}
 
 -- whether the cells can be a record's, by the most that each of its fields holds: none is missing and none holds more
 abbrev pub within : List ℕ → List ℕ → Bool
@@ -28,6 +28,11 @@ number w cs i = get_or cs i 0 % 2 ^ w
 abbrev pub got : ℕ → ℕ → ℕ
 got answer found = answer + 256 * found
 
+-- the same of a call that gives what it found, or its refusal
+abbrev pub returned_by : Result ℕ Refusal → ℕ
+returned_by (Ok found) = got (told Accepted) found
+returned_by (Err refusal) = got (told (Err refusal)) 0
+
 -- the three parts, as a caller takes them from what was returned
 abbrev pub answer_in : ℕ → ℕ
 answer_in returned = returned % 2 ^ 8
@@ -46,7 +51,7 @@ pub record Tells (returned : ℕ) (answer : Answer) (found : ℕ) : Type 0 where
 
 -- the refusal of cells that can be no record
 abbrev pub bad_state : ℕ
-bad_state = number_of BadState
+bad_state = number_of (Err BadState)
 
 -- accepted, a record's fields stand over the first cells; refused, the cells are as they were
 abbrev pub kept : Answer → List ℕ → List ℕ → List ℕ
@@ -55,10 +60,6 @@ kept answer fields cells = cond (accepts answer) (sets cells 0 fields) cells
 -- fields over the cells from a place on, where there are enough of them
 unfoldable pub put_over : List ℕ → ℕ → List ℕ → List ℕ
 put_over cells place fields = cond (leb (place + length fields) (length cells)) (sets cells place fields) cells
-
--- `kept`, where there may be too few cells
-abbrev pub kept_over : Answer → List ℕ → List ℕ → List ℕ
-kept_over answer fields cells = cond (accepts answer) (put_over cells 0 fields) cells
 
 -- what a call that answers a number and writes one slice leaves
 pub record Written : Type 0 where

@@ -5,16 +5,14 @@
 #![tactic(auto)]
 
 ghost use Rattle.std.specs.Prelude.{◌≡◌};
-ghost use Rattle.wire.specs.Answers.{told};
-ghost use Rattle.cells.specs.Cells.{within, got, put_over, kept_over, wrote, offered};
+ghost use Rattle.wire.specs.Answers.{number_of};
+ghost use Rattle.cells.specs.Cells.{within, returned_by, wrote, offered};
 
-use wire::{Answer, number, tell};
-
-// The number of the refusal of cells that can be no record.
-pub const BAD_STATE: u32 = 1;
+use wire::{Answer, Refusal, tell};
 
 // Whether the cells can be a record's: none is missing, and none holds more than its field can. It has
 // no early way out, so that many are tested at a time.
+#[tactic(auto, using(crate::proofs::Tested::too_few))]
 pub fn within(most: &[u32], cells: &[u32]) -> bool
     ensures { result ≡ within most.now cells.now }
 {
@@ -22,53 +20,30 @@ pub fn within(most: &[u32], cells: &[u32]) -> bool
         return false;
     }
     let mut so_far = true;
-    let mut i = 0;
-    while i < most.len() {
-        so_far = so_far & (cells[i] <= most[i]);
-        i += 1;
+    for (cell, most) in cells.iter().zip(most) {
+        so_far = so_far & (*cell <= *most);
     }
     so_far
 }
 
-// Writes fields over the cells from a place on, where there are enough of them.
-#[tactic(auto, using(crate::proofs::Cases::put_few))]
-pub fn put(cells: &mut [u32], place: usize, fields: &[u32])
-    ensures { cells.new ≡ put_over cells.old place fields.now }
-{
-    if cells.len() < place {
-        return;
-    }
-    if cells.len() - place < fields.len() {
-        return;
-    }
-    let mut i = 0;
-    while i < fields.len() {
-        cells[place + i] = fields[i];
-        i += 1;
-    }
-}
-
 // Writes a record over the first of the cells, where there are enough of them.
-pub fn offer(cells: &mut [u32], fields: &[u32]) -> u32
-    ensures { wrote result cells.new ≡ offered fields.now cells.old }
+#[tactic(auto, using(crate::proofs::Cases::offered_few, crate::proofs::Cases::offered_over))]
+pub fn offer(cells: &mut [u32], fields: &[u32]) -> Answer
+    ensures { wrote (number_of result) cells.new ≡ offered fields.now cells.old }
 {
     if cells.len() < fields.len() {
-        return BAD_STATE;
+        return Err(Refusal::BadState);
     }
-    put(cells, 0, fields);
-    0
+    cells[..fields.len()].copy_from_slice(fields);
+    Ok(())
 }
 
-// What a call returns, by its answer with the place and by what it found; accepted, the fields of its record
-// are put over the first of the cells.
-pub fn settle(answer: Answer, found: u8, fields: &[u32], cells: &mut [u32]) -> u32
-    ensures value { result ≡ got (told answer) found }
-    ensures cells_after { cells.new ≡ kept_over answer fields.now cells.old }
+// What a call returns to C: what it found; refused, its answer with the place.
+pub fn returned(given: Result<u8, Refusal>) -> u32
+    ensures { result ≡ returned_by given }
 {
-    let found = 256 * (found as u32);
-    if number(answer) != 0 {
-        return tell(answer) + found;
+    match given {
+        Ok(found) => 256 * (found as u32),
+        Err(refusal) => tell(Err(refusal)),
     }
-    put(cells, 0, fields);
-    found
 }
