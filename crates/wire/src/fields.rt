@@ -34,7 +34,7 @@ pub fn is_on(c: u8, k: u8) -> bool
 pub fn flag_of(b: bool) -> u8
     ensures { (result ≡ flag b) × (result ≤ 1) }
 {
-    if b { 1 } else { 0 }
+    u8::from(b)
 }
 
 // A byte of eight flags, bit 0 first.

@@ -81,8 +81,28 @@ impl Refusal {
             Refusal::StreamFull => 0,
             Refusal::NoSync(byte) => byte,
             Refusal::Padding(byte) => byte,
-            Refusal::Reserved(cause) => cause_number(cause),
+            Refusal::Reserved(cause) => u16::from(cause),
             Refusal::Range => 0,
+        }
+    }
+}
+
+// Its number, as T-02, T-07 and T-08 have it.
+impl From<Cause> for u16 {
+    ghost from_gives = { λ cause number. number ≡ cause_number cause };
+
+    fn from(cause: Cause) -> u16 {
+        match cause {
+            Cause::Source10 => 1,
+            Cause::Relay => 2,
+            Cause::Word9C4Bit7 => 3,
+            Cause::Word10C1Bit7 => 4,
+            Cause::Ain5 => 5,
+            Cause::Ain1 => 6,
+            Cause::Ain2 => 7,
+            Cause::Ain3 => 8,
+            Cause::Ain4 => 9,
+            Cause::Ain6 => 10,
         }
     }
 }
@@ -104,23 +124,6 @@ pub fn place(answer: Answer) -> u16
     match answer {
         Ok(()) => 0,
         Err(refusal) => refusal.place(),
-    }
-}
-
-pub(crate) fn cause_number(cause: Cause) -> u16
-    ensures { result ≡ cause_number cause }
-{
-    match cause {
-        Cause::Source10 => 1,
-        Cause::Relay => 2,
-        Cause::Word9C4Bit7 => 3,
-        Cause::Word10C1Bit7 => 4,
-        Cause::Ain5 => 5,
-        Cause::Ain1 => 6,
-        Cause::Ain2 => 7,
-        Cause::Ain3 => 8,
-        Cause::Ain4 => 9,
-        Cause::Ain6 => 10,
     }
 }
 

@@ -10,6 +10,8 @@ pub type Bytes3 = [u8; 3];
 
 pub type Bytes4 = [u8; 4];
 
+// `be16` and `be32`, and the two ways back, stand for the library's byte orders of their widths, each a method of its own
+// type; here they say what document 01 says of the bytes, `be` and `bytes_of`, over any width.
 pub fn be16(a: u8, b: u8) -> u16
     ensures { result ≡ be (a ∷ b ∷ []) }
 {
@@ -41,7 +43,8 @@ pub fn sample16(a: u8, b: u8) -> i16
     centred(be16(a, b) as u32, 0x8000) as i16
 }
 
-// A receiver's sample, from its three bytes: the sign is the highest one's.
+// A receiver's sample, from its three bytes: the sign is the highest one's. It has a form of its own, and not that of `sample16`,
+// since `signed_byte` has no branch.
 pub fn sample24(a: u8, b: u8, c: u8) -> i32
     ensures { result ≡ signed 24 (be (a ∷ b ∷ c ∷ [])) }
 {
@@ -58,12 +61,8 @@ pub fn bytes_of_sample16(x: i16) -> Bytes2
 pub fn bytes_of_sample24(x: i32) -> Bytes3
     ensures { result ≡ bytes_of 3 (unsigned 24 x) }
 {
-    let n = pattern(x, 0x100_0000);
-    [
-        (n / 65536 % 256) as u8,
-        (n / 256 % 256) as u8,
-        (n % 256) as u8,
-    ]
+    let [_, high, mid, low] = pattern(x, 0x100_0000).to_be_bytes();
+    [high, mid, low]
 }
 
 // Whether x is in -8,388,608 to 8,388,607.
