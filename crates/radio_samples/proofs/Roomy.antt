@@ -4,37 +4,44 @@ use mathlib.Core.Path.{◌≡◌, sym, ◌∙◌}
 use mathlib.Core.Bool.{true, false, ◌&&◌}
 use mathlib.Core.List.{List}
 use Prim.Native.Nat.{ℕ, ◌<◌, ◌≤◌}
-use native.Mathlib.Omega.{arith}
 use borrow.Author.Tests.{eq-eqb, ne_eqb, eqb-true, le-leb, lt-leb, leb-true}
 use lib.Dec.{eqb, leb}
 use lib.IntN.{ℤ}
 use lib.ListN.{length}
 use lib.Seq.{sets}
+use Rattle.std.specs.Prelude.{Some, None}
+use Rattle.std.specs.Result.{result_ok}
 use Rattle.wire.specs.Lists.{over}
 use Rattle.wire.proofs.Cases.{by_test, both_true}
-use Rattle.layout.specs.Slots.{counted, row_of, slots, values}
-use Rattle.layout.specs.declared.Row.{Row}
+use Rattle.layout.specs.Slots.{counted, slots, values}
+use Rattle.layout.specs.Table.{row_of, lookup}
+use Rattle.layout.specs.declared.row.Row.{Row}
 use Rattle.radio_samples.specs.Fill.{payload_of, samples_over}
 use Rattle.radio_samples.specs.Samples.{iq_at, mic_at, roomy, fit, samples_read}
-use Rattle.radio_samples.specs.declared.Fit.TheVariants.{For, Unfit}
+
+-- a row that was looked up
+pub looked_up : (n : ℕ) (r : Row) → result_ok (lookup n) ≡ Some r → (counted n ≡ true) × (r ≡ row_of n)
+looked_up n r e =
+    by_test (counted n) (λ is. (is, (let same : result_ok (lookup n) ≡ Some (row_of n) = rw is in cc)))
+    (λ isn't. let other : result_ok (lookup n) ≡ None = rw isn't in cc)
 
 module _ (n iq mic bytes due : ℕ) where
-  pub bad_count : counted n ≡ false → fit n iq mic bytes due ≡ Unfit
+  pub bad_count : counted n ≡ false → fit n iq mic bytes due ≡ None
   unfolding roomy
   bad_count other = rw other
 
   module _ (is : counted n ≡ true) where
-    pub short-iq : iq < values n → fit n iq mic bytes due ≡ Unfit
+    pub short-iq : iq < values n → fit n iq mic bytes due ≡ None
     unfolding roomy
     short-iq short = rw (is, lt-leb _ _ short)
 
     module _ (iq_room : values n ≤ iq) where
-      pub short-mic : mic < slots n → fit n iq mic bytes due ≡ Unfit
+      pub short-mic : mic < slots n → fit n iq mic bytes due ≡ None
       unfolding roomy
       short-mic short = rw (is, le-leb _ _ iq_room, lt-leb _ _ short)
 
       module _ (mic_room : slots n ≤ mic) where
-        pub bad_length : (bytes ≡ due → ⊥) → fit n iq mic bytes due ≡ Unfit
+        pub bad_length : (bytes ≡ due → ⊥) → fit n iq mic bytes due ≡ None
         unfolding roomy
         bad_length other = rw (is, le-leb _ _ iq_room, le-leb _ _ mic_room, ne_eqb bytes due other)
 
@@ -42,19 +49,19 @@ module _ (n iq mic bytes due : ℕ) where
         unfolding roomy
         has_room same = rw (is, le-leb _ _ iq_room, le-leb _ _ mic_room, eq-eqb bytes due same)
 
-        pub all_there : bytes ≡ due → fit n iq mic bytes due ≡ For (row_of n)
+        pub all_there : bytes ≡ due → fit n iq mic bytes due ≡ Some (row_of n)
         all_there same = rw (has_room same)
 
   -- what is known where a row was given, and where none was
-  pub fits : (r : Row) → fit n iq mic bytes due ≡ For r → (roomy n iq mic bytes due ≡ true) × (r ≡ row_of n)
+  pub fits : (r : Row) → fit n iq mic bytes due ≡ Some r → (roomy n iq mic bytes due ≡ true) × (r.receivers ≡ n)
   fits r e =
-      by_test (roomy n iq mic bytes due) (λ is. (is, (let same : fit n iq mic bytes due ≡ For (row_of n) = rw is in cc)))
-      (λ isn't. let other : fit n iq mic bytes due ≡ Unfit = rw isn't in let never : ◌≡◌ {A = ℕ} 0 1 = cc in absurd (omega arith))
+      by_test (roomy n iq mic bytes due) (λ is. (is, (let same : fit n iq mic bytes due ≡ Some (row_of n) = rw is in cc)))
+      (λ isn't. let other : fit n iq mic bytes due ≡ None = rw isn't in cc)
 
-  pub unfit : fit n iq mic bytes due ≡ Unfit → roomy n iq mic bytes due ≡ false
+  pub unfit : fit n iq mic bytes due ≡ None → roomy n iq mic bytes due ≡ false
   unfit e =
       by_test (roomy n iq mic bytes due)
-      (λ is. let other : fit n iq mic bytes due ≡ For (row_of n) = rw is in let never : ◌≡◌ {A = ℕ} 0 1 = cc in absurd (omega arith))
+      (λ is. let other : fit n iq mic bytes due ≡ Some (row_of n) = rw is in cc)
       (λ isn't. isn't)
 
   pub room : roomy n iq mic bytes due ≡ true → (values n ≤ iq) × (slots n ≤ mic) × (bytes ≡ due)

@@ -6,9 +6,10 @@ use Prim.Native.Nat.{ℕ, ◌+◌, ◌-◌, ◌*◌}
 use native.Mathlib.Omega.{arith}
 use lib.IntN.{ℤ}
 use lib.ListN.{length, replicate, length-append}
+use borrow.Rule.Slice.PartMut.{put_mid, mid_of, mid_len}
 use lib.Seq.{sets, length-sets}
 use Rattle.wire.specs.Lists.{tabs}
-use Rattle.wire.proofs.Lists.{length-tabs, sets-append}
+use Rattle.wire.proofs.Lists.{length-tabs, sets-append, tab-constant, over_at-sets}
 use Rattle.layout.specs.Slots.{slot, slots, padding}
 use Rattle.layout.proofs.Places.{whole_payload}
 use Rattle.radio_samples.specs.Fill.{iq_bytes, mic_bytes, slot_bytes, payload_of}
@@ -30,10 +31,14 @@ module _ (n : ℕ) (iq mic : List ℤ) where
   pub slots_long : length (tabs (slots n) (slot_bytes n iq mic)) ≡ slots n * slot n
   slots_long = length-tabs (slot n) (slot_bytes n iq mic) (slots n) (λ t h. slot_long n iq mic t)
 
-  -- over any frame of 512 bytes, slots and zeros leave the payload that is meant
-  pub payload_laid : (f f₁ f₂ : List ℕ) → length f ≡ 512 → f₁ ≡ sets f 8 (tabs (slots n) (slot_bytes n iq mic)) → f₂ ≡ sets f₁ (512 - padding n) (replicate (length f₁ - (512 - padding n)) 0) → f₂ ≡ sets f 8 (payload_of n iq mic)
-  payload_laid f f₁ f₂ long one two =
+  -- over any frame of 512 bytes, slots and then zeros in the rest leave the payload that is meant
+  pub payload_laid : (f f₁ zeros : List ℕ) (start : ℕ) → start ≡ 512 - padding n → length f ≡ 512 → f₁ ≡ sets f 8 (tabs (slots n) (slot_bytes n iq mic)) → zeros ≡ replicate (length (mid_of start (length f₁ - start) f₁)) 0 → put_mid start (length f₁ - start) f₁ zeros ≡ sets f 8 (payload_of n iq mic)
+  payload_laid f f₁ zeros start start_is long one two =
       let same : length f₁ ≡ 512 = ap length one ∙ length-sets f 8 (tabs (slots n) (slot_bytes n iq mic)) ∙ long in
-      let rest : length f₁ - (512 - padding n) ≡ padding n = omega (arith, whole_payload n) in
-      let place : 512 - padding n ≡ 8 + length (tabs (slots n) (slot_bytes n iq mic)) = omega (arith, slots_long, whole_payload n) in
-      two ∙ rw (rest, one, place) (sets-append f 8 (tabs (slots n) (slot_bytes n iq mic)) (replicate (padding n) 0))
+      let rest : length f₁ - start ≡ padding n = omega (arith, whole_payload n) in
+      let zeros_are : zeros ≡ replicate (padding n) 0 = two ∙ ap (λ m. replicate m 0) (mid_len start (length f₁) f₁ (omega arith) ∙ rest) in
+      let place : start ≡ 8 + length (tabs (slots n) (slot_bytes n iq mic)) = omega (arith, slots_long, whole_payload n) in
+      let zero : ℕ = 0 in
+      let put : put_mid start (padding n) f₁ (replicate (padding n) 0) ≡ sets f₁ start (replicate (padding n) 0) =
+      rw (← tab-constant (padding n) zero) (over_at-sets start (padding n) (λ i. zero) f₁ (omega (arith, whole_payload n))) in
+      rw (rest, zeros_are, put, one, place) (sets-append f 8 (tabs (slots n) (slot_bytes n iq mic)) (replicate (padding n) 0))

@@ -1,10 +1,10 @@
 -- Document 01, "Frame and slots": the samples of a radio frame's payload, for n receivers. Assumes nothing.
-use Rattle.std.specs.Prelude.{ℕ, ◌+◌, Bool, cond, ◌&&◌, List, [], ◌∷◌, eqb, leb, ℤ, length, get_or}
+use Rattle.std.specs.Prelude.{ℕ, ◌+◌, Bool, cond, ◌&&◌, List, [], ◌∷◌, eqb, leb, ℤ, length, get_or, Option, Some, None}
 use Rattle.wire.specs.Lists.{over}
 use Rattle.wire.specs.Numbers.{be, signed}
-use Rattle.layout.specs.Slots.{counted, row_of, slots, values, iq_place, mic_place}
-use Rattle.radio_samples.specs.declared.Fit.{Fit}
-use Rattle.radio_samples.specs.declared.Fit.TheVariants.{For, Unfit}
+use Rattle.layout.specs.Slots.{counted, slots, values, iq_place, mic_place}
+use Rattle.layout.specs.Table.{row_of}
+use Rattle.layout.specs.declared.row.Row.{Row}
 
 -- the sample of three bytes, or of two, that begins at a place of p
 abbrev pub sample24 : List ℕ → ℕ → ℤ
@@ -25,8 +25,8 @@ unfoldable pub roomy : ℕ → ℕ → ℕ → ℕ → ℕ → Bool
 roomy n iq mic bytes due = counted n && leb (values n) iq && leb (slots n) mic && eqb bytes due
 
 -- the row for which it is so
-abbrev pub fit : ℕ → ℕ → ℕ → ℕ → ℕ → Fit
-fit n iq mic bytes due = cond (roomy n iq mic bytes due) (For (row_of n)) Unfit
+abbrev pub fit : ℕ → ℕ → ℕ → ℕ → ℕ → Option Row
+fit n iq mic bytes due = cond (roomy n iq mic bytes due) (Some (row_of n)) None
 
 -- every sample of a payload at the start of its slice: "A longer slice keeps its remainder." Where they cannot be, both as they were
 unfoldable pub samples_read : ℕ → List ℕ → List ℤ → List ℤ → List ℤ × List ℤ

@@ -1,25 +1,21 @@
 // The samples and the padding of a frame that is written, each over its place.
-ghost use Rattle.std.specs.Prelude.{◌≡◌, ◌+◌, ◌-◌, ◌*◌, ◌≤◌, ◌<◌, length, replicate};
+ghost use Rattle.std.specs.Prelude.{◌≡◌, ◌+◌, ◌*◌, ◌≤◌, ◌<◌, length};
 ghost use Rattle.std.proofs.lemmas.List.Edits.{sets};
 ghost use Rattle.wire.specs.Lists.{tabs};
 ghost use Rattle.wire.specs.Numbers.{bytes_of, unsigned};
-ghost use Rattle.layout.specs.Slots.{row_of, values, slots};
+ghost use Rattle.layout.specs.Slots.{values, slots};
 ghost use Rattle.radio_samples.specs.Fill.{iq_bytes, slot_bytes};
 
 use layout::Row;
 use wire::numbers::{bytes_of_sample16, bytes_of_sample24};
 
 // Every slot, one after another, from byte 8 on.
-pub(crate) fn write_slots(iq: &[i32], mic: &[i16], receivers: usize, row: Row, frame: &mut [u8])
-    requires { (row ≡ row_of receivers) × (values receivers ≤ length iq.now) × (slots receivers ≤ length mic.now) × (length frame.old ≡ 512) }
-    ensures { frame.new ≡ sets frame.old 8 (tabs (slots receivers) (slot_bytes receivers iq.now mic.now)) }
+pub(crate) fn write_slots(iq: &[i32], mic: &[i16], row: Row, frame: &mut [u8])
+    requires { (values row.receivers ≤ length iq.now) × (slots row.receivers ≤ length mic.now) × (length frame.old ≡ 512) }
+    ensures { frame.new ≡ sets frame.old 8 (tabs (slots row.receivers) (slot_bytes row.receivers iq.now mic.now)) }
 {
-    let slot = row.slot;
-    let slots = row.slots;
-    let mut t = 0;
-    while t < slots {
-        write_slot(iq, mic, receivers, t, frame, 8 + t * slot);
-        t += 1;
+    for t in 0..row.slots {
+        write_slot(iq, mic, row.receivers, t, frame, 8 + t * row.slot);
     }
 }
 
@@ -66,15 +62,13 @@ pub(crate) fn write_pairs(iq: &[i32], from: usize, receivers: usize, frame: &mut
     requires { (from + 2 * receivers ≤ length iq.now) × (at + 6 * receivers ≤ length frame.old) }
     ensures { frame.new ≡ sets frame.old at (tabs (2 * receivers) (λ j. iq_bytes iq.now (from + j))) }
 {
-    let mut r = 0;
-    while r < receivers {
+    for r in 0..receivers {
         let k = from + r * 2;
         let i = iq[k];
         let q = iq[k + 1];
         let b = at + r * 6;
         write_value(i, frame, b);
         write_value(q, frame, b + 3);
-        r += 1;
     }
 }
 
@@ -83,10 +77,8 @@ pub(crate) fn write_values(iq: &[i32], from: usize, count: usize, frame: &mut [u
     requires { (from + count ≤ length iq.now) × (at + count * 3 ≤ length frame.old) }
     ensures { frame.new ≡ sets frame.old at (tabs count (λ j. iq_bytes iq.now (from + j))) }
 {
-    let mut j = 0;
-    while j < count {
+    for j in 0..count {
         write_value(iq[from + j], frame, at + j * 3);
-        j += 1;
     }
 }
 
@@ -94,22 +86,8 @@ pub(crate) fn write_value(x: i32, frame: &mut [u8], at: usize)
     requires { at + 3 ≤ length frame.old }
     ensures { frame.new ≡ sets frame.old at (bytes_of 3 (unsigned 24 x)) }
 {
-    let written = bytes_of_sample24(x);
-    let b = written.bytes;
+    let b = bytes_of_sample24(x);
     frame[at] = b[0];
     frame[at + 1] = b[1];
     frame[at + 2] = b[2];
-}
-
-// Zeros from a place to the end.
-pub(crate) fn clear(frame: &mut [u8], from: usize)
-    requires { from ≤ length frame.old }
-    ensures { frame.new ≡ sets frame.old from (replicate (length frame.old - from) 0) }
-{
-    let count = frame.len() - from;
-    let mut i = 0;
-    while i < count {
-        frame[from + i] = 0;
-        i += 1;
-    }
 }

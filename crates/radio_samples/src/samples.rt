@@ -1,30 +1,20 @@
 // The samples of a payload. The payload is the part of a frame from byte 8, and each slot a part of that.
 ghost use Rattle.std.specs.Prelude.{◌≡◌, ◌+◌, ◌*◌, ◌≤◌, ◌<◌, length, set};
 ghost use Rattle.wire.specs.Lists.{over, over_at};
-ghost use Rattle.layout.specs.Slots.{row_of, values, slots};
+ghost use Rattle.layout.specs.Slots.{values, slots};
 ghost use Rattle.radio_samples.specs.Samples.{sample24, sample16, iq_at, mic_at};
 
 use layout::Row;
 use wire::numbers::{sample16, sample24};
 
 // Every sample of the payload, in slot order, at the start of its slice.
-pub(crate) fn read_slots(
-    payload: &[u8],
-    receivers: usize,
-    row: Row,
-    iq: &mut [i32],
-    mic: &mut [i16],
-)
-    requires { (length payload.now ≡ 504) × (row ≡ row_of receivers) × (values receivers ≤ length iq.old) × (slots receivers ≤ length mic.old) }
-    ensures { (iq.new ≡ over (values receivers) (iq_at receivers payload.now) iq.old) × (mic.new ≡ over (slots receivers) (mic_at receivers payload.now) mic.old) }
+pub(crate) fn read_slots(payload: &[u8], row: Row, iq: &mut [i32], mic: &mut [i16])
+    requires { (length payload.now ≡ 504) × (values row.receivers ≤ length iq.old) × (slots row.receivers ≤ length mic.old) }
+    ensures { (iq.new ≡ over (values row.receivers) (iq_at row.receivers payload.now) iq.old) × (mic.new ≡ over (slots row.receivers) (mic_at row.receivers payload.now) mic.old) }
 {
-    let slot = row.slot;
-    let slots = row.slots;
-    let mut t = 0;
-    while t < slots {
-        let at = t * slot;
-        read_slot(&payload[at..at + slot], receivers, t, iq, mic);
-        t += 1;
+    for t in 0..row.slots {
+        let at = t * row.slot;
+        read_slot(&payload[at..at + row.slot], row.receivers, t, iq, mic);
     }
 }
 
@@ -57,8 +47,7 @@ pub(crate) fn read_pairs(part: &[u8], receivers: usize, at: usize, iq: &mut [i32
     requires { (6 * receivers ≤ length part.now) × (at + 2 * receivers ≤ length iq.old) }
     ensures { iq.new ≡ over_at at (2 * receivers) (λ j. sample24 part.now (3 * j)) iq.old }
 {
-    let mut r = 0;
-    while r < receivers {
+    for r in 0..receivers {
         let b = r * 6;
         let c = b + 3;
         let k = at + r * 2;
@@ -66,7 +55,6 @@ pub(crate) fn read_pairs(part: &[u8], receivers: usize, at: usize, iq: &mut [i32
         let q = sample24(part[c], part[c + 1], part[c + 2]);
         iq[k] = i;
         iq[k + 1] = q;
-        r += 1;
     }
 }
 
@@ -75,10 +63,8 @@ pub(crate) fn read_values(part: &[u8], count: usize, at: usize, iq: &mut [i32])
     requires { (3 * count ≤ length part.now) × (at + count ≤ length iq.old) }
     ensures { iq.new ≡ over_at at count (λ j. sample24 part.now (3 * j)) iq.old }
 {
-    let mut j = 0;
-    while j < count {
+    for j in 0..count {
         let b = 3 * j;
         iq[at + j] = sample24(part[b], part[b + 1], part[b + 2]);
-        j += 1;
     }
 }

@@ -1,13 +1,15 @@
--- `fitting` meets its contract: a count outside the table, one test a slice and one of the bytes. Assumes nothing.
-use mathlib.Core.Path.{◌≡◌, sym, ap}
-use native.Mathlib.Omega.{arith}
-use Rattle.layout.specs.Slots.{slots}
-use Rattle.layout.proofs.Lookup.{found}
-use Rattle.layout.proofs.Places.{few_values}
+-- `fitting` meets its contract: a count that has no row, one test a slice and one of the bytes, or the row. Assumes nothing.
+use mathlib.Core.Path.{sym, ap, ◌∙◌}
+use Rattle.std.specs.Prelude.{Some}
+use Rattle.std.specs.Result.{result_ok}
+use Rattle.radio_samples.proofs.Roomy.{looked_up, all_there}
 use Rattle.radio_samples.proofs.fitting.Goals as goal
 
-pub overflow_mul-receivers-2 : goal.overflow_mul-receivers-2
-overflow_mul-receivers-2 c =
-    let row = found c.args.receivers c.in-Of.row (sym c.in-Of.ensures) in
-    let is : c.in-Of.row.slots ≡ slots c.args.receivers = ap (λ r. r.slots) row.1 in
-    rw is (omega (arith, few_values c.args.receivers))
+pub returns : goal.returns
+returns c =
+    let row = c.in_ok-row.row in
+    let is = looked_up c.args.receivers row (ap result_ok (sym c.row_of.ensures) ∙ sym c.ok.ensures.value ∙ c.in_ok-row.was) in
+    let count = ap (λ r. r.receivers) is.1 in
+    let iq_room = rw (c.values.ensures, count) at c.if-iq-values.false in
+    let mic_room = rw (row.rule.slots_is, count) at c.if-mic-row.false in
+    ap Some is.1 ∙ sym (all_there _ _ _ _ _ is.0 iq_room mic_room c.if-bytes-due.false)

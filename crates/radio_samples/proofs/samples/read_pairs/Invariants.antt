@@ -1,11 +1,7 @@
 -- The loop of `samples::read_pairs`: each turn reads I and Q of one receiver more. Assumes nothing.
-use Prim.Native.Nat.{◌-◌}
 use Rattle.wire.proofs.Laid.{Laid}
 use Rattle.radio_samples.proofs.Pairs.{pair_read}
 use Rattle.radio_samples.proofs.samples.read_pairs.Given as goal
 
 abbrev pub invariant-loop-r : goal.invariant-loop-r
 invariant-loop-r l = Laid l.at 2 l.receivers (pair_read l.part) l.initial.iq l.r l.iq
-
-abbrev pub decreases-loop-r : goal.decreases-loop-r
-decreases-loop-r l = l.receivers - l.r

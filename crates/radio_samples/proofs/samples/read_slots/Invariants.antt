@@ -1,10 +1,6 @@
 -- The loop of `samples::read_slots`: each turn reads one slot more. Assumes nothing.
-use Prim.Native.Nat.{◌-◌}
 use Rattle.radio_samples.proofs.SlotBySlot.{ReadTo}
 use Rattle.radio_samples.proofs.samples.read_slots.Given as goal
 
 abbrev pub invariant-loop-t : goal.invariant-loop-t
-invariant-loop-t l = ReadTo l.payload l.receivers l.initial.iq l.initial.mic l.slot l.slots l.iq l.mic l.t
-
-abbrev pub decreases-loop-t : goal.decreases-loop-t
-decreases-loop-t l = l.slots - l.t
+invariant-loop-t l = ReadTo l.payload l.row.receivers l.initial.iq l.initial.mic l.row.slot l.row.slots l.iq l.mic l.t

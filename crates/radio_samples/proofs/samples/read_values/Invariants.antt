@@ -1,6 +1,6 @@
 -- The loop of `samples::read_values`: each turn writes one sample more. Assumes nothing.
 use mathlib.Core.List.{List}
-use Prim.Native.Nat.{ℕ, ◌*◌, ◌-◌}
+use Prim.Native.Nat.{ℕ, ◌*◌}
 use lib.IntN.{ℤ}
 use Rattle.wire.proofs.Fill.{Filled}
 use Rattle.radio_samples.specs.Samples.{sample24}
@@ -11,6 +11,3 @@ values part j = sample24 part (3 * j)
 
 abbrev pub invariant-loop-j : goal.invariant-loop-j
 invariant-loop-j l = Filled l.at l.count (values l.part) l.initial.iq l.j l.iq
-
-abbrev pub decreases-loop-j : goal.decreases-loop-j
-decreases-loop-j l = l.count - l.j
