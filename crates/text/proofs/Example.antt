@@ -1,9 +1,9 @@
 -- Rows of what is printed, by the definitions alone: "1,324", a byte in hexadecimal, and texts that are numbers or none. Assumes nothing.
 use mathlib.Core.Path.{◌≡◌, refl}
 use mathlib.Core.List.{[], ◌∷◌}
+use Rattle.std.specs.Prelude.{Some, None}
 use Rattle.text.specs.Numbers.{groups_in, decimal_of, commas, hex_of}
 use Rattle.text.specs.Place.{capped_of, place_of}
-use Rattle.text.specs.declared.place.Place.TheVariants.{NoNumber, At}
 
 -- "0", "999", "1,000", "1,324", "65,536"
 pub with-commas : commas 0 ∷ commas 999 ∷ commas 1000 ∷ commas 1324 ∷ commas 65536 ∷ []
@@ -36,6 +36,6 @@ pub places : place_of (0x30 ∷ [])
     ∷ place_of (0x31 ∷ 0x32 ∷ 0x61 ∷ [])
     ∷ place_of (0x20 ∷ 0x37 ∷ [])
     ∷ []
-    ≡ At 0 ∷ At 6100 ∷ At 42 ∷ At 999999999 ∷ At 1000000000 ∷ At 1000000000 ∷ NoNumber ∷ NoNumber ∷ NoNumber ∷ NoNumber ∷ NoNumber ∷ NoNumber ∷ []
+    ≡ Some 0 ∷ Some 6100 ∷ Some 42 ∷ Some 999999999 ∷ Some 1000000000 ∷ Some 1000000000 ∷ None ∷ None ∷ None ∷ None ∷ None ∷ None ∷ []
 unfolding capped_of place_of
 places = refl

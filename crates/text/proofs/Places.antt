@@ -1,15 +1,17 @@
 -- The number that a text stands for, digit by digit, and the loop that reads it. Assumes nothing.
 use mathlib.Core.Path.{◌≡◌, refl, sym, ap, ◌∙◌}
+use mathlib.Core.Bool.{true}
 use mathlib.Core.List.{List, [], ◌∷◌}
-use Prim.Native.Nat.{ℕ, ◌+◌, ◌-◌, ◌*◌, ◌<◌, ◌≤◌}
+use Prim.Native.Nat.{ℕ, ◌+◌, ◌-◌, ◌*◌, ◌<◌, ◌≤◌, min}
 use native.Mathlib.Numerals.{add-one}
 use native.Mathlib.Omega.{arith}
-use borrow.Author.Tests.{lt-ltb, le-ltb, le-leb, lt-leb}
+use borrow.Author.Tests.{lt-ltb, le-ltb}
 use lib.ListN.{length, get_or, drop}
 use lib.Seq.{drop-cons, drop-length}
+use Rattle.std.specs.Prelude.{Some, None}
 use Rattle.wire.proofs.Cases.{by_order}
+use Rattle.std.specs.Char.{is_ascii_digit}
 use Rattle.text.specs.Place.{capped_of, digits_after, place_from, place_of}
-use Rattle.text.specs.declared.place.Place.TheVariants.{NoNumber, At}
 
 abbrev most : ℕ
 most = 1000000000
@@ -25,6 +27,9 @@ module _ (n : ℕ) where
 
   pub capped_most : capped_of n ≤ most
   capped_most = by_order n most (λ below. omega (arith, capped_below below)) (λ above. omega (arith, capped_above above))
+
+  pub capped_min : capped_of n ≡ min n most
+  capped_min = by_order n most (λ below. omega (arith, capped_below below)) (λ above. omega (arith, capped_above above))
 
   pub capped_same : n ≤ most → capped_of n ≡ n
   capped_same inside = by_order n most capped_below (λ above. omega (arith, capped_above above))
@@ -49,7 +54,7 @@ pub record Reading (text : List ℕ) (n i : ℕ) : Type 0 where
   pub small : n ≤ most
   pub same : place_from n (drop i text) ≡ place_of text
 
-pub reading_none : (text : List ℕ) → length text ≡ 0 → NoNumber ≡ place_of text
+pub reading_none : (text : List ℕ) → length text ≡ 0 → None ≡ place_of text
 unfolding place_of
 reading_none [] e = refl
 reading_none (b ∷ s) e = absurd (omega arith)
@@ -60,27 +65,22 @@ reading_starts [] e = absurd (e refl)
 reading_starts (b ∷ s) e = record { inside = omega arith; small = omega arith; same = refl }
 
 module _ (text : List ℕ) (n i : ℕ) (so_far : Reading text n i) where
-  pub reading_ends : length text ≤ i → At n ≡ place_of text
+  pub reading_ends : length text ≤ i → Some n ≡ place_of text
   reading_ends over =
       let last : i ≡ length text = omega arith in
-      ap At (sym (capped_same n so_far.small)) ∙ ap (place_from n) (sym (ap (λ m. drop m text) last ∙ drop-length text)) ∙ so_far.same
+      ap Some (sym (capped_same n so_far.small)) ∙ ap (place_from n) (sym (ap (λ m. drop m text) last ∙ drop-length text)) ∙ so_far.same
 
   module _ (more : i < length text) where
     next : drop i text ≡ get_or text i 0 ∷ drop (i + 1) text
     next = rw (add-one i) (drop-cons text i 0 more)
 
-    pub reading_below : get_or text i 0 < 0x30 → NoNumber ≡ place_of text
-    reading_below low = rw (next, lt-leb 0x30 (get_or text i 0) low) at so_far.same
-
-    pub reading_above : 0x30 ≤ get_or text i 0 → 0x39 < get_or text i 0 → NoNumber ≡ place_of text
-    reading_above from high = rw (next, le-leb 0x30 (get_or text i 0) from, lt-leb (get_or text i 0) 0x39 high) at so_far.same
-
-    pub reading_digit : (m : ℕ) → 0x30 ≤ get_or text i 0 → get_or text i 0 ≤ 0x39 → m ≡ capped_of (n * 10 + (get_or text i 0 - 0x30)) → Reading text m (i + 1)
-    reading_digit m from to is =
+    pub reading_digit : (m : ℕ) → is_ascii_digit (get_or text i 0) ≡ true → m ≡ min (n * 10 + (get_or text i 0 - 0x30)) most → Reading text m (i + 1)
+    reading_digit m digit is =
+        let capped : m ≡ capped_of (n * 10 + (get_or text i 0 - 0x30)) = is ∙ sym (capped_min _) in
         record {
           inside = omega arith;
-          small = rw is (capped_most _);
+          small = rw capped (capped_most _);
           same =
-              rw is (rw (capped_digits (n * 10 + (get_or text i 0 - 0x30)) (drop (i + 1) text))
-              (rw (next, le-leb 0x30 (get_or text i 0) from, le-leb (get_or text i 0) 0x39 to) at so_far.same));
+              rw capped (rw (capped_digits (n * 10 + (get_or text i 0 - 0x30)) (drop (i + 1) text))
+              (rw (next, digit) at so_far.same));
         }

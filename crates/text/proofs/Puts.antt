@@ -1,14 +1,15 @@
 -- Texts put into a slice one after another. Assumes nothing.
 use mathlib.Core.Path.{◌≡◌, refl, sym, ap, ◌∙◌}
 use mathlib.Core.Bool.{Bool, true, false, cond}
-use mathlib.Core.List.{List, [], ◌∷◌, ◌++◌}
-use Prim.Native.Nat.{ℕ, suc, ◌+◌, ◌<◌, ◌≤◌}
+use mathlib.Core.List.{List, [], ◌∷◌, ◌++◌, append_assoc}
+use Prim.Native.Nat.{ℕ, suc, ◌+◌, ◌-◌, ◌<◌, ◌≤◌, min}
 use native.Mathlib.Nat.{zero-add, add-zero}
 use native.Mathlib.Numerals.{add-one}
 use native.Mathlib.Omega.{arith}
 use borrow.Author.Tests.{lt-ltb, le-ltb}
-use lib.ListN.{length, get_or, drop, set, length-append, length-set}
-use lib.Seq.{sets, sets-eq, length-sets, drop-cons, drop-length}
+use borrow.Rule.Slice.PartMut.{put_mid, Post-is}
+use lib.ListN.{length, take, drop, set, take-append-drop, length-append, length-set}
+use lib.Seq.{sets, sets-eq, length-sets, take_all, length-take-le}
 use Rattle.wire.proofs.Cases.{by_order}
 use Rattle.wire.proofs.Lists.{sets-append}
 use Rattle.text.specs.Put.{Written, gave, written, put_of, Put}
@@ -89,30 +90,18 @@ pub put_start : (out text : List ℕ) → length text ≤ length out → put_of 
 put_start out text room =
     room_put out 0 text (omega arith) ∙ put_whole out text (0 + length text) (sets out 0 text) room (record { place = refl; stored = refl })
 
--- The loop that puts a text, i bytes into it: from here on it puts what the call puts.
-pub record Putting (out₀ : List ℕ) (at : ℕ) (text out : List ℕ) (next i : ℕ) : Type 0 where
-  pub inside : i ≤ length text
-  pub long : length out ≡ length out₀
-  pub same : put_of out next (drop i text) ≡ put_of out₀ at text
-
-module _ (out₀ : List ℕ) (at : ℕ) (text : List ℕ) where
-  pub putting_starts : Putting out₀ at text out₀ at 0
-  putting_starts = record { inside = omega arith; long = refl; same = refl }
-
-  module _ {out : List ℕ} {next i : ℕ} (so_far : Putting out₀ at text out next i) where
-    pub putting_full : length out ≤ next → gave next out ≡ put_of out₀ at text
-    putting_full full = put_full out next (drop i text) full ∙ so_far.same
-
-    pub putting_ends : length text ≤ i → gave next out ≡ put_of out₀ at text
-    putting_ends over =
-        let last : i ≡ length text = omega arith in
-        put_nothing out next ∙ ap (put_of out next) (sym (ap (λ n. drop n text) last ∙ drop-length text)) ∙ so_far.same
-
-    pub putting_more : i < length text → next < length out → Putting out₀ at text (set out next (get_or text i 0)) (next + 1) (i + 1)
-    putting_more more room =
-        let one : drop i text ≡ get_or text i 0 ∷ drop (i + 1) text = rw (add-one i) (drop-cons text i 0 more) in
-        record {
-          inside = omega arith;
-          long = length-set out next (get_or text i 0) ∙ so_far.long;
-          same = sym (put_byte out next _ _ room) ∙ ap (put_of out next) (sym one) ∙ so_far.same;
-        }
+-- what there is room for of a text, copied over a part of the slice
+pub put_room : (out : List ℕ) (at : ℕ) (text : List ℕ) (n : ℕ) {part : List ℕ} → at ≤ length out → n ≡ min (length text) (length out - at) → part ≡ take n text
+    → gave (at + n) (put_mid at (at + n - at) out part) ≡ put_of out at text
+put_room out at text n {part} inside room is =
+    let long : length (take n text) ≡ n = length-take-le n text (omega arith) in
+    let fits : at + length (take n text) ≤ length out = omega arith in
+    let over : put_mid at (at + n - at) out part ≡ sets out at (take n text) =
+    rw (Post-is at (at + n) out (omega arith), is, sets-eq (take n text) out at fits, long, append_assoc) in
+    let one : gave (at + n) (put_mid at (at + n - at) out part) ≡ put_of out at (take n text) =
+    rw (over, room_put out at (take n text) fits, long) in
+    by_order n (length text)
+    (λ cut.
+    let full : length (put_mid at (at + n - at) out part) ≤ at + n = omega (arith, ap length over, length-sets out at (take n text)) in
+    and_then _ _ (take n text) (drop n text) one (put_full _ _ _ full) ∙ ap (put_of out at) (take-append-drop n text))
+    (λ whole. one ∙ ap (put_of out at) (take_all n text whole))

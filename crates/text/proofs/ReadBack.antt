@@ -7,9 +7,9 @@ use native.Mathlib.Omega.{arith}
 use borrow.Author.Tests.{le-leb}
 use lib.Dec.{leb}
 use lib.ListN.{length, length-append}
+use Rattle.std.specs.Prelude.{Some}
 use Rattle.text.specs.Numbers.{decimal_of}
 use Rattle.text.specs.Place.{capped_of, decimal_digits, digits_after, place_of}
-use Rattle.text.specs.declared.place.Place.TheVariants.{At}
 use Rattle.text.proofs.Numbers.{by_groups, one_digit_lem, last_digit}
 use Rattle.text.proofs.Places.{capped_below}
 
@@ -42,14 +42,14 @@ digits_of_lem =
       value = after_append 0 (decimal_of (n / 10)) (last ∷ []) ∙ rw rest.value (omega arith);
     }))
 
-place_of_digits : (n : ℕ) (text : List ℕ) → Digits n text → place_of text ≡ At (capped_of n)
+place_of_digits : (n : ℕ) (text : List ℕ) → Digits n text → place_of text ≡ Some (capped_of n)
 unfolding place_of
 place_of_digits n [] d = absurd (omega (arith, d.some))
-place_of_digits n (b ∷ s) d = rw d.digits (ap (λ m. At (capped_of m)) d.value)
+place_of_digits n (b ∷ s) d = rw d.digits (ap (λ m. Some (capped_of m)) d.value)
 
-pub place_back : (n : ℕ) → place_of (decimal_of n) ≡ At (capped_of n)
+pub place_back : (n : ℕ) → place_of (decimal_of n) ≡ Some (capped_of n)
 place_back n = place_of_digits n (decimal_of n) (digits_of_lem n)
 
 -- below the cap, the number itself
-pub number_back : (n : ℕ) → n < 1000000000 → place_of (decimal_of n) ≡ At n
-number_back n below = place_back n ∙ ap At (capped_below n below)
+pub number_back : (n : ℕ) → n < 1000000000 → place_of (decimal_of n) ≡ Some n
+number_back n below = place_back n ∙ ap Some (capped_below n below)

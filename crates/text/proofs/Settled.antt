@@ -2,10 +2,10 @@
 use mathlib.Core.Path.{◌≡◌, ap}
 use mathlib.Core.List.{List}
 use Prim.Native.Nat.{ℕ}
+use Rattle.std.specs.Prelude.{Option}
 use Rattle.wire.proofs.Settled.{settled}
 use Rattle.text.specs.Put.{Written, gave, put_of}
 use Rattle.text.specs.Place.{place_of}
-use Rattle.text.specs.declared.place.Place.{Place}
 
 -- both the count and the lent slice afterwards
 pub written_settled : (w : Written) (r s : ℕ) (one other : List ℕ) → gave r one ≡ w → gave s other ≡ w → (r ≡ s) × (one ≡ other)
@@ -17,5 +17,5 @@ written_settled w r s one other p q =
 pub put_settled : (out : List ℕ) (at : ℕ) (text : List ℕ) (r s : ℕ) (one other : List ℕ) → gave r one ≡ put_of out at text → gave s other ≡ put_of out at text → (r ≡ s) × (one ≡ other)
 put_settled out at text = written_settled (put_of out at text)
 
-pub place_settled : (text : List ℕ) (r s : Place) → r ≡ place_of text → s ≡ place_of text → r ≡ s
+pub place_settled : (text : List ℕ) (r s : Option ℕ) → r ≡ place_of text → s ≡ place_of text → r ≡ s
 place_settled text r s = settled

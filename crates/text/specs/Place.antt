@@ -1,7 +1,5 @@
 -- The number that a text stands for. Assumes nothing.
-use Rattle.std.specs.Prelude.{ℕ, ◌+◌, ◌-◌, ◌*◌, Bool, true, cond, ◌&&◌, List, [], ◌∷◌, leb, ltb}
-use Rattle.text.specs.declared.place.Place.{Place}
-use Rattle.text.specs.declared.place.Place.TheVariants.{NoNumber, At}
+use Rattle.std.specs.Prelude.{ℕ, ◌+◌, ◌-◌, ◌*◌, Bool, true, cond, ◌&&◌, Option, None, Some, List, [], ◌∷◌, leb, ltb}
 
 -- every greater number counts as 1,000,000,000
 unfoldable pub capped_of : ℕ → ℕ
@@ -16,10 +14,10 @@ abbrev pub digits_after : ℕ → List ℕ → ℕ
 digits_after n [] = n
 digits_after n (b ∷ s) = digits_after (n * 10 + (b - 0x30)) s
 
-abbrev pub place_from : ℕ → List ℕ → Place
-place_from n text = cond (decimal_digits text) (At (capped_of (digits_after n text))) NoNumber
+abbrev pub place_from : ℕ → List ℕ → Option ℕ
+place_from n text = cond (decimal_digits text) (Some (capped_of (digits_after n text))) None
 
 -- a text of decimal digits, at least one; every other is no number
-unfoldable pub place_of : List ℕ → Place
-place_of [] = NoNumber
+unfoldable pub place_of : List ℕ → Option ℕ
+place_of [] = None
 place_of (b ∷ s) = place_from 0 (b ∷ s)

@@ -21,22 +21,17 @@ pub fn byte(out: &mut [u8], at: usize, b: u8) -> usize
     at
 }
 
-// A text.
-#[tactic(auto, using(crate::proofs::Puts::put_full))]
+// A text, as much of it as there is room for.
 pub fn put(out: &mut [u8], at: usize, text: &[u8]) -> usize
     ensures { gave result out.new ≡ put_of out.old at text.now }
 {
-    let mut next = at;
-    let mut i = 0;
-    while i < text.len() {
-        if out.len() <= next {
-            return next;
-        }
-        out[next] = text[i];
-        next += 1;
-        i += 1;
+    if out.len() <= at {
+        return at;
     }
-    next
+    let n = text.len().min(out.len() - at);
+    let end = at + n;
+    out[at..end].copy_from_slice(&text[..n]);
+    end
 }
 
 // A number in decimal.

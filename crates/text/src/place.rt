@@ -1,45 +1,24 @@
 // A number from a text.
 ghost use Rattle.std.specs.Prelude.{◌≡◌};
-ghost use Rattle.text.specs.Place.{place_of, capped_of};
+ghost use Rattle.text.specs.Place.{place_of};
 
 // Every greater number counts as this one.
 pub const MOST: u64 = 1_000_000_000;
 
-#[derive(Clone, Copy)]
-pub enum Place {
-    // the text is empty, or has a byte that is no decimal digit
-    NoNumber,
-    At(u64),
-}
-
-// The number that a text of decimal digits stands for, however many they are.
-pub fn place_of(text: &[u8]) -> Place
+// The number that a text of decimal digits stands for, however many they are: None for an empty text, and for
+// one with a byte that is no decimal digit.
+pub fn place_of(text: &[u8]) -> Option<u64>
     ensures { result ≡ place_of text.now }
 {
-    if text.len() == 0 {
-        return Place::NoNumber;
+    if text.is_empty() {
+        return None;
     }
     let mut n: u64 = 0;
-    let mut i = 0;
-    while i < text.len() {
-        let b = text[i];
-        if b < b'0' {
-            return Place::NoNumber;
+    for b in text {
+        if !b.is_ascii_digit() {
+            return None;
         }
-        if b'9' < b {
-            return Place::NoNumber;
-        }
-        n = capped(n * 10 + (b - b'0') as u64);
-        i += 1;
+        n = (n * 10 + u64::from(*b - b'0')).min(MOST);
     }
-    Place::At(n)
-}
-
-pub(crate) fn capped(n: u64) -> u64
-    ensures { result ≡ capped_of n }
-{
-    if n < MOST {
-        return n;
-    }
-    MOST
+    Some(n)
 }

@@ -1,10 +1,10 @@
--- `put` meets its contract: after each turn what is left of the text is still to be put. Assumes nothing.
+-- `put` meets its contract: there is no room, or as much as there is room for is copied. Assumes nothing.
 use native.Mathlib.Omega.{arith}
-use Rattle.text.proofs.Puts.{putting_more, putting_ends}
+use Rattle.text.proofs.Puts.{put_full, put_room}
 use Rattle.text.proofs.put.Goals as goal
 
-pub loop-i-preserved : goal.loop-i-preserved
-loop-i-preserved c = putting_more _ _ _ c.loop-i.invariant c.loop-i-test.true (omega arith)
+pub returns-then-out-at : goal.returns-then-out-at
+returns-then-out-at c = put_full _ _ _ c.if-out-at.true
 
 pub returns : goal.returns
-returns c = putting_ends _ _ _ c.loop-i.invariant c.loop-i-test.false
+returns c = put_room _ _ _ _ (omega arith) c.min-n.ensures c.copy_from_slice.ensures.after
