@@ -3,16 +3,20 @@ use mathlib.Core.Path.{◌≡◌, refl, subst⁻¹}
 use mathlib.Core.List.{List}
 use Prim.Native.Nat.{ℕ, ◌+◌, ◌*◌, ◌^◌}
 use native.Mathlib.Omega.{arith}
-use Rattle.wire.specs.Answers.{told, place_of}
+use Rattle.wire.specs.Answers.{Answer, told, place_of}
 use Rattle.cells.proofs.Parts.{lower_half, upper_half}
 use Rattle.cells.specs.Cells.{got, Written}
 use Rattle.plain.specs.Plain.{Outcome, Few, plain_of}
 use Rattle.plain.proofs.Counts.{few, placeless}
-use Rattle.hpsdr_plain.specs.Plain.{shown, plain_read_of, TellsAll}
+use Rattle.hpsdr_plain.specs.Plain.{returned_of, shown, plain_read_of, TellsAll}
 
 pub shown-is : (input output : List ℕ) → plain_read_of input output ≡ shown (plain_of input output)
 unfolding plain_read_of
 shown-is input output = refl
+
+-- where nothing is counted, the answer alone is told
+pub no_counts : (a : Answer) → told a ≡ returned_of a 0 0 0
+no_counts a = omega arith
 
 -- where no place and no large count stands, each part has bits of its own
 module _ (o : Outcome) (none : place_of o.answer ≡ 0) (small : Few o.frames o.skipped o.left) where

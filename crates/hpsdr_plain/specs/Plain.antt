@@ -1,7 +1,6 @@
 -- The plain reader through the door: its answer and its counts as one number. Assumes nothing.
 use Rattle.std.specs.Prelude.{ℕ, ◌+◌, ◌*◌, ◌/◌, ◌%◌, ◌^◌, ◌≡◌, List}
-use Rattle.wire.specs.Answers.{told}
-use Rattle.wire.specs.declared.Answer.{Answer}
+use Rattle.wire.specs.Answers.{Answer, told}
 use Rattle.cells.specs.Cells.{got, Tells, Written, wrote}
 use Rattle.plain.specs.Plain.{Outcome, plain_of}
 
