@@ -7,7 +7,7 @@ use native.Mathlib.Omega.{arith}
 use borrow.Author.Tests.{le-leb, lt-leb}
 use lib.Dec.{leb}
 use lib.ListN.{length, drop}
-use Rattle.wire.specs.declared.Answer.TheVariants.{Accepted}
+use Rattle.std.specs.Prelude.{Ok}
 use Rattle.reading.proofs.Readings.{counted, left-length}
 use Rattle.reading.specs.Reading.{reading}
 use Rattle.stream.specs.Record.{cells}
@@ -43,6 +43,6 @@ module _ {s output exit : List ℕ} {r : Scanned} (scans : Scans s output r exit
   pub rest_few : length s ≤ r.place + 514
   rest_few = omega (arith, rest, (counted s).few)
 
-  pub advances : (given : Stream) (piece count : ℕ) (held : List ℕ) → held ≡ cells 514 (drop r.place s) → count ≡ length s - r.place → gave (record { answer = Accepted; frames = r.frames; next = record { held = held; count = count; frames = given.frames + r.frames; skipped = given.skipped + r.skipped; total = given.total + piece } }) exit ≡ accepted given piece (reading s) output
+  pub advances : (given : Stream) (piece count : ℕ) (held : List ℕ) → held ≡ cells 514 (drop r.place s) → count ≡ length s - r.place → gave given (Ok (record { frames = r.frames; next = record { held = held; count = count; frames = given.frames + r.frames; skipped = given.skipped + r.skipped; total = given.total + piece } })) exit ≡ accepted given piece (reading s) output
   advances given piece count held is left =
       rw (is, scans.left_is, left, rest, scans.frames_is, scans.skipped_is, scans.output_is)

@@ -3,19 +3,21 @@ use mathlib.Core.Path.{◌≡◌, refl, sym, ap, ◌∙◌}
 use mathlib.Core.Bool.{true, false, true≢false}
 use mathlib.Core.List.{List, ◌++◌}
 use Prim.Native.Nat.{ℕ, ◌+◌, ◌^◌, ◌<◌, ◌≤◌}
-use borrow.Author.Tests.{lt-ltb, le-ltb, ltb-false, not-false}
+use borrow.Author.Tests.{lt-ltb, le-ltb, ltb-false, not-false, ne_eqb}
 use lib.Dec.{eqb}
 use lib.ListN.{length}
 use Rattle.wire.proofs.Cases.{by_test}
 use Rattle.wire.proofs.First.{accepted_none}
-use Rattle.wire.specs.Answers.{first, number_of, accepts}
-use Rattle.wire.specs.declared.Answer.{Answer}
-use Rattle.wire.specs.declared.Answer.TheVariants.{Accepted, BadState, Length, ShortBuffer, StreamFull}
-use Rattle.wire.proofs.First.{accepts-only}
-use Rattle.stream.proofs.Records.{Sound, sound_told, sound_shown}
+use Rattle.std.specs.Prelude.{Err}
+use Rattle.wire.specs.Answers.{Answer, Accepted, first, number_of, accepts}
+use Rattle.wire.specs.declared.Refusal.{Refusal}
+use Rattle.wire.specs.declared.Refusal.TheVariants.{StreamFull}
+use Rattle.wire.proofs.First.{accepts-only, only_accepted}
+use Rattle.stream.proofs.Records.{numbers, whole, Sound, sound_told, sound_shown}
 use Rattle.stream.specs.Feed.{Outcome, refusals, refused, accepted, feed_of}
 use Rattle.reading.specs.Reading.{reading}
 use Rattle.stream.specs.Record.{sound_of, held_bytes}
+use Rattle.stream.specs.declared.Counts.{Counts}
 use Rattle.stream.specs.declared.Stream.{Stream}
 
 -- a call that no test refuses
@@ -30,23 +32,16 @@ module _ (given : Stream) (piece output : ℕ) where
   abbrev pub answer : Answer
   answer = first (refusals given piece output)
 
-  pub bad_state_lem : sound_of given ≡ false → answer ≡ BadState
-  bad_state_lem unsound = rw unsound
+  module _ (sound : sound_of given ≡ true) (short : piece ≤ 4096) (room : 4096 ≤ output) where
+    pub too_many : 2 ^ 48 < given.total + piece → answer ≡ Err StreamFull
+    too_many full = rw (sound, le-ltb 4096 piece short, le-ltb output 4096 room, lt-ltb (2 ^ 48) (given.total + piece) full)
 
-  module _ (sound : sound_of given ≡ true) where
-    pub too_long : 4096 < piece → answer ≡ Length
-    too_long long = rw (sound, lt-ltb 4096 piece long)
+    pub passed : given.total + piece ≤ 2 ^ 48 → answer ≡ Accepted
+    passed fits = rw (sound, le-ltb 4096 piece short, le-ltb output 4096 room, le-ltb (2 ^ 48) (given.total + piece) fits)
 
-    module _ (short : piece ≤ 4096) where
-      pub no_room : output < 4096 → answer ≡ ShortBuffer
-      no_room small = rw (sound, le-ltb 4096 piece short, lt-ltb output 4096 small)
-
-      module _ (room : 4096 ≤ output) where
-        pub too_many : 2 ^ 48 < given.total + piece → answer ≡ StreamFull
-        too_many full = rw (sound, le-ltb 4096 piece short, le-ltb output 4096 room, lt-ltb (2 ^ 48) (given.total + piece) full)
-
-        pub passed : given.total + piece ≤ 2 ^ 48 → answer ≡ Accepted
-        passed fits = rw (sound, le-ltb 4096 piece short, le-ltb output 4096 room, le-ltb (2 ^ 48) (given.total + piece) fits)
+  -- the answer that the record's numbers and its cells give apart
+  pub of_numbers : (n : Counts) {a : Answer} → n ≡ numbers given → a ≡ first (refusals (whole n given.held) piece output) → a ≡ answer
+  of_numbers n same is = is ∙ ap (λ m. first (refusals (whole m given.held) piece output)) same
 
   pub passes : answer ≡ Accepted → Passes given piece output
   passes e =
@@ -63,7 +58,11 @@ module _ (given : Stream) (piece output : List ℕ) where
   unfolding feed_of
   refuses e = rw e
 
-  pub stream_full : sound_of given ≡ true → length piece ≤ 4096 → 4096 ≤ length output → 2 ^ 48 < given.total + length piece → feed_of given piece output ≡ refused StreamFull given output
+  pub refused_by : (refusal : Refusal) → answer given (length piece) (length output) ≡ Err refusal → feed_of given piece output ≡ refused (Err refusal) given output
+  refused_by refusal is =
+      refuses (rw is (ne_eqb (number_of (Err refusal)) 0 (λ none. cc (only_accepted (Err refusal) none)))) ∙ rw is
+
+  pub stream_full : sound_of given ≡ true → length piece ≤ 4096 → 4096 ≤ length output → 2 ^ 48 < given.total + length piece → feed_of given piece output ≡ refused (Err StreamFull) given output
   stream_full sound short room full =
       let is = too_many given (length piece) (length output) sound short room full in
       refuses (rw is) ∙ rw is

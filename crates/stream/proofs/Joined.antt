@@ -48,22 +48,16 @@ module _ (held piece : List ℕ) where
 
   -- ---- a part of it, over the bytes of another list
 
-  module _ (to : List ℕ) (at p n : ℕ) (inside : p + n ≤ length held + length piece) (room : at + n ≤ length to) where
+  module _ (to : List ℕ) (at p n : ℕ) (inside : p + n ≤ length (held ++ piece)) (room : at + n ≤ length to) where
     abbrev pub asked : List ℕ
     asked = take n (drop p (held ++ piece))
-
-    pub put-piece : length held ≤ p → written to at (take (p - length held + n - (p - length held)) (drop (p - length held) piece)) ≡ sets to at asked
-    put-piece far =
-        let start = p - length held in
-        let long : length (take n (drop start piece)) ≡ n = length-take-le n (drop start piece) (rw (length-drop start piece) (omega arith)) in
-        rw (add-sub_cancel_left start n, all_written to at (take n (drop start piece)) (omega arith), part-piece p n far)
 
     pub put_across : p < length held → (near : ℕ) → near ≡ min n (length held - p) → written (written to at (take (p + near - p) (drop p held))) (at + near) (take (n - near) piece) ≡ sets to at asked
     put_across here near is =
         let first = take near (drop p held) in
         let second = take (n - near) piece in
         let first-long : length first ≡ near = length-take-le near (drop p held) (rw (length-drop p held) (omega arith)) in
-        let second-long : length second ≡ n - near = length-take-le (n - near) piece (omega arith) in
+        let second-long : length second ≡ n - near = length-take-le (n - near) piece (omega (arith, length-append held piece)) in
         let whole : first ++ second ≡ asked = rw is (part_across p n here) in
         let size : length (sets to at first) ≡ length to = length-sets to at first in
         let behind : at + near ≡ at + length first = ap (λ k. at + k) (sym first-long) in

@@ -7,7 +7,7 @@ use native.Mathlib.Nat.{zero-add}
 use native.Mathlib.Omega.{arith}
 use lib.ListN.{length, take, drop, length-append, length-drop, length-take}
 use lib.Seq.{drop-drop, drop-append-le, take_at}
-use Rattle.wire.specs.declared.Answer.TheVariants.{Accepted}
+use Rattle.wire.specs.Answers.{Accepted}
 use Rattle.stream.proofs.Calls.{by_outcome, fed, accepted_passes}
 use Rattle.stream.proofs.Cells.{take_cells}
 use Rattle.stream.proofs.Cut.{however_cut}

@@ -13,7 +13,10 @@ use Rattle.stream.specs.Record.{sound_of}
 use Rattle.stream.specs.declared.Stream.{Stream}
 use Rattle.stream.specs.declared.Counts.{Counts}
 
--- the record of numbers and cells that stand apart
+-- a record's numbers, and the record of numbers and cells that stand apart
+abbrev pub numbers : Stream → Counts
+numbers s = record { count = s.count; frames = s.frames; skipped = s.skipped; total = s.total }
+
 abbrev pub whole : Counts → List ℕ → Stream
 whole n held = record { held = held; count = n.count; frames = n.frames; skipped = n.skipped; total = n.total }
 

@@ -1,8 +1,8 @@
 -- Document 01, "The stream reader": one call. Assumes nothing.
-use Rattle.std.specs.Prelude.{ℕ, ◌+◌, ◌^◌, not, cond, List, [], ◌∷◌, ◌++◌, ltb, length, drop}
-use Rattle.wire.specs.Answers.{Test, ◌gives◌, first, accepts}
-use Rattle.wire.specs.declared.Answer.{Answer}
-use Rattle.wire.specs.declared.Answer.TheVariants.{Accepted, BadState, Length, ShortBuffer, StreamFull}
+use Rattle.std.specs.Prelude.{ℕ, ◌+◌, ◌^◌, not, cond, List, [], ◌∷◌, ◌++◌, ltb, length, drop, Result, Ok, Err}
+use Rattle.wire.specs.Answers.{Answer, Accepted, Test, ◌gives◌, first, accepts}
+use Rattle.wire.specs.declared.Refusal.{Refusal}
+use Rattle.wire.specs.declared.Refusal.TheVariants.{BadState, Length, ShortBuffer, StreamFull}
 use Rattle.reading.specs.Reading.{Reading, reading}
 use Rattle.stream.specs.Record.{cells, sound_of, held_bytes}
 use Rattle.stream.specs.declared.Stream.{Stream}
@@ -15,9 +15,10 @@ pub record Outcome : Type 0 where
   pub next : Stream
   pub output : List ℕ
 
--- what the call gave, with the output as it returned
-abbrev pub gave : Fed → List ℕ → Outcome
-gave r output = record { answer = r.answer; frames = r.frames; next = r.next; output = output }
+-- what the call on a record gave, with the output as it returned
+abbrev pub gave : Stream → Result Fed Refusal → List ℕ → Outcome
+gave given (Ok r) output = record { answer = Accepted; frames = r.frames; next = r.next; output = output }
+gave given (Err refusal) output = record { answer = Err refusal; frames = 0; next = given; output = output }
 
 -- numbers 1, 3, 4 and 5 of "Nine refusals, in the order they are tested", by the lengths of the piece and of the output
 abbrev pub refusals : Stream → ℕ → ℕ → List Test

@@ -1,6 +1,6 @@
 -- Calls one after another, each on the record that the one before it gave. Assumes nothing.
 use Rattle.std.specs.Prelude.{ℕ, ◌*◌, ◌≤◌, ◌≡◌, List, [], ◌∷◌, ◌++◌, length, take}
-use Rattle.wire.specs.declared.Answer.TheVariants.{Accepted}
+use Rattle.wire.specs.Answers.{Accepted}
 use Rattle.stream.specs.Feed.{Outcome, feed_of}
 use Rattle.stream.specs.declared.Stream.{Stream}
 

@@ -2,20 +2,21 @@
 // cut, and finds its place again after damage.
 //
 // A `Stream` is a value. Start with `Stream::fresh()`, and give each record that `feed` returns to
-// the next call, with the next piece. A refusal hands the record and the output back as they were.
+// the next call, with the next piece. After a refusal the record given stands, and the output is as it was.
 #![tactic(auto)]
 
 mod parts;
 pub mod scan;
 
-ghost use Rattle.std.specs.Prelude.{◌≡◌, ◌++◌, length};
+ghost use Rattle.std.specs.Prelude.{◌≡◌, ◌++◌, length, Ok};
 ghost use Rattle.wire.specs.Answers.{first};
 ghost use Rattle.reading.specs.Reading.{reading};
 ghost use Rattle.stream.specs.Record.{fresh_of, sound_of, held_bytes};
 ghost use Rattle.stream.specs.Feed.{gave, refusals, accepted, feed_of};
 ghost use Rattle.stream.specs.Steps.{Ready};
 
-use wire::Answer;
+use crate::parts::Joined;
+use wire::{Answer, Refusal};
 
 // No piece is longer, and no output shorter: eight frames, the most that can come from one call.
 pub const MOST: usize = 4096;
@@ -42,10 +43,9 @@ pub struct Counts {
     pub total: u64,
 }
 
-// What a call gives back: the frames are those handed out in this call.
+// What an accepted call gives back: the frames are those handed out in this call.
 #[derive(Clone, Copy)]
 pub struct Fed {
-    pub answer: Answer,
     pub frames: usize,
     pub next: Stream,
 }
@@ -67,8 +67,7 @@ impl Stream {
     pub fn sound(self) -> bool
         ensures { result ≡ sound_of self }
     {
-        let held = self.held;
-        is_sound(self.counts(), &held)
+        is_sound(self.counts(), &self.held)
     }
 
     pub(crate) fn counts(self) -> Counts
@@ -82,44 +81,31 @@ impl Stream {
         }
     }
 
-    // Reads the held bytes followed by the piece. The frames stand at the start of the output.
-    pub fn feed(self, piece: &[u8], output: &mut [u8]) -> Fed
-        ensures { gave result output.new ≡ feed_of self piece.now output.old }
+    // Reads the held bytes followed by the piece. The frames stand at the start of the output. Refused, the record
+    // given stands.
+    pub fn feed(self, piece: &[u8], output: &mut [u8]) -> Result<Fed, Refusal>
+        ensures { gave self result output.new ≡ feed_of self piece.now output.old }
     {
-        let held = self.held;
-        let answer = answer_of(self.counts(), &held, piece.len(), output.len());
-        if wire::number(answer) != 0 {
-            return self.refused(answer);
-        }
-        self.read_on(piece, output)
-    }
-
-    pub(crate) fn refused(self, answer: Answer) -> Fed
-        ensures { result ≡ record { answer = answer; frames = 0; next = self } }
-    {
-        Fed {
-            answer,
-            frames: 0,
-            next: self,
-        }
+        answer_of(self.counts(), &self.held, piece.len(), output.len())?;
+        Ok(self.read_on(piece, output))
     }
 
     // The call, where no test refuses it.
     pub(crate) fn read_on(self, piece: &[u8], output: &mut [u8]) -> Fed
         requires { Ready self (length piece.now) (length output.old) }
-        ensures { gave result output.new ≡ accepted self (length piece.now) (reading (held_bytes self ++ piece.now)) output.old }
+        ensures { gave self (Ok result) output.new ≡ accepted self (length piece.now) (reading (held_bytes self ++ piece.now)) output.old }
     {
-        let held = self.held;
-        let count = self.count;
-        let scanned = scan::scan(&held[..count], piece, output);
+        let joined = Joined {
+            held: &self.held[..self.count],
+            piece,
+        };
+        let scanned = joined.read(output);
         let place = scanned.place;
-        let left = parts::left(&held[..count], piece, place);
         Fed {
-            answer: Answer::Accepted,
             frames: scanned.frames,
             next: Stream {
-                held: left,
-                count: count + piece.len() - place,
+                held: joined.left(place),
+                count: joined.len() - place,
                 frames: self.frames + scanned.frames as u64,
                 skipped: self.skipped + scanned.skipped as u64,
                 total: self.total + piece.len() as u64,
@@ -160,16 +146,16 @@ pub fn answer_of(counts: Counts, held: &[u8], piece: usize, output: usize) -> An
     ensures { result ≡ first (refusals (record { held = held.now; count = counts.count; frames = counts.frames; skipped = counts.skipped; total = counts.total }) piece output) }
 {
     if !is_sound(counts, held) {
-        return Answer::BadState;
+        return Err(Refusal::BadState);
     }
     if MOST < piece {
-        return Answer::Length;
+        return Err(Refusal::Length);
     }
     if output < MOST {
-        return Answer::ShortBuffer;
+        return Err(Refusal::ShortBuffer);
     }
     if FULL < counts.total + piece as u64 {
-        return Answer::StreamFull;
+        return Err(Refusal::StreamFull);
     }
-    Answer::Accepted
+    Ok(())
 }

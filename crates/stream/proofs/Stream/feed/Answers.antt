@@ -1,36 +1,23 @@
 -- `Stream::feed` meets its contract: the answer that is due decides. Assumes nothing.
-use mathlib.Core.Path.{◌≡◌, sym, ap, ◌∙◌}
-use borrow.Author.Tests.{eq-eqb, ne_eqb}
-use lib.Dec.{eqb}
+use mathlib.Core.Path.{sym, ◌∙◌}
 use lib.ListN.{length}
-use Rattle.wire.proofs.First.{accepts-only}
-use Rattle.wire.specs.Answers.{number_of}
-use Rattle.stream.proofs.Calls.{answer, passes, refuses, fed}
-use Rattle.stream.proofs.Records.{whole}
+use Rattle.std.proofs.lemmas.Result.{err_from_is_err_and}
+use Rattle.stream.proofs.Calls.{of_numbers, passes, refused_by, fed}
 use Rattle.stream.proofs.Stream.feed.Goals as goal
 
-pub returns-then-number-ne0 : goal.returns-then-number-ne0
-returns-then-number-ne0 c =
-    let is_due : c.answer_of-answer.result ≡ answer c.args.self (length c.args.piece.now) (length c.args.output.now) =
-    c.answer_of-answer.ensures
-    ∙ ap (λ n. answer (whole n c.args.self.held) (length c.args.piece.now) (length c.args.output.now)) c.counts.ensures in
-    let number_due = ap number_of (sym is_due) ∙ sym c.number.ensures in
-    rw (c.refused.ensures, is_due)
-    (sym (refuses _ _ _ (ap (λ n. eqb n 0) number_due ∙ ne_eqb _ _ c.if-number-ne0.true)))
+pub returns-in_err-answer_of : goal.returns-in_err-answer_of
+returns-in_err-answer_of c =
+    let due = of_numbers c.args.self (length c.args.piece.now) (length c.args.output.now) c.counts.result c.counts.ensures c.answer_of.ensures in
+    let p = err_from_is_err_and c.from_residual.result c.from_residual.ensures.1 in
+    rw (p.1, p.2) (sym (refused_by _ _ _ _ (sym due ∙ c.in_err-answer_of.was)))
 
 pub read_on-requires : goal.read_on-requires
 read_on-requires c =
-    let is_due : c.answer_of-answer.result ≡ answer c.args.self (length c.args.piece.now) (length c.args.output.now) =
-    c.answer_of-answer.ensures
-    ∙ ap (λ n. answer (whole n c.args.self.held) (length c.args.piece.now) (length c.args.output.now)) c.counts.ensures in
-    let number_due = ap number_of (sym is_due) ∙ sym c.number.ensures in
-    let all = passes _ _ _ (accepts-only _ (eq-eqb _ _ (number_due ∙ c.if-number-ne0.false))) in
+    let due = of_numbers c.args.self (length c.args.piece.now) (length c.args.output.now) c.counts.result c.counts.ensures c.answer_of.ensures in
+    let all = passes _ _ _ (sym due ∙ c.in_ok-answer_of.was) in
     record { few = all.sound.few; tally = all.sound.tally; fits = all.fits; short = all.short; room = all.room }
 
 pub returns : goal.returns
 returns c =
-    let is_due : c.answer_of-answer.result ≡ answer c.args.self (length c.args.piece.now) (length c.args.output.now) =
-    c.answer_of-answer.ensures
-    ∙ ap (λ n. answer (whole n c.args.self.held) (length c.args.piece.now) (length c.args.output.now)) c.counts.ensures in
-    let number_due = ap number_of (sym is_due) ∙ sym c.number.ensures in
-    c.read_on.ensures ∙ sym (fed _ _ _ (passes _ _ _ (accepts-only _ (eq-eqb _ _ (number_due ∙ c.if-number-ne0.false)))))
+    let due = of_numbers c.args.self (length c.args.piece.now) (length c.args.output.now) c.counts.result c.counts.ensures c.answer_of.ensures in
+    c.read_on.ensures ∙ sym (fed _ _ _ (passes _ _ _ (sym due ∙ c.in_ok-answer_of.was)))
