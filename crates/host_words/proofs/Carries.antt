@@ -15,7 +15,7 @@ use Rattle.host_words.specs.Words.{address, hertz, unassigned, tunes, heard, aft
 use Rattle.host_record.specs.declared.record.Host.{Host}
 use Rattle.host_record.specs.declared.choices.Source10.{Source10}
 use Rattle.host_record.specs.declared.choices.Relay.{Relay}
-use Rattle.host_words.specs.declared.Control.{Control}
+use Rattle.wire.specs.declared.control.Control.{Control}
 
 module _ (a : ℕ) (c : Control) (h : Host) where
   pub mox_follows : (heard a c h).mox ≡ on c.c0 0

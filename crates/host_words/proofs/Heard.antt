@@ -1,14 +1,12 @@
 -- Which fields a word's number picks in `heard`: the tests of a receiver's word, and of an unlisted one. Assumes nothing.
 use mathlib.Core.Path.{◌≡◌}
 use mathlib.Core.Bool.{true, false}
-use Prim.Native.Nat.{ℕ, suc, ◌<◌, ◌≤◌}
+use Prim.Native.Nat.{ℕ, ◌≤◌}
 use native.Mathlib.Omega.{arith}
 use borrow.Author.Tests.{ne_eqb, le-leb, lt-leb, leb-true}
 use lib.Dec.{eqb, leb}
 use Rattle.wire.proofs.Cases.{both_true}
-use Rattle.host_words.specs.Words.{last_word, tunes, heard}
-use Rattle.host_record.specs.declared.record.Host.{Host}
-use Rattle.host_words.specs.declared.Control.{Control}
+use Rattle.host_words.specs.Words.{tunes}
 
 -- a word that is none of 0, 1, 9 and 10
 pub record Tests (a : ℕ) : Type 0 where
@@ -36,10 +34,3 @@ tuned a e =
 
 pub past-tunes : (a : ℕ) → 9 ≤ a → tunes a ≡ false
 past-tunes a above = let from : 2 ≤ a = omega arith in rw (le-leb 2 a from, lt-leb a 8 above)
-
--- all unlisted words do the same
-pub unlisted_same : (a : ℕ) (c : Control) (h : Host) → last_word < a → heard a c h ≡ heard (suc last_word) c h
-unfolding heard
-unlisted_same a c h above =
-    let other = tests a (omega arith) (omega arith) (omega arith) in
-    rw (other.settings, other.transmitter, other.switches, other.front, past-tunes a (omega arith))

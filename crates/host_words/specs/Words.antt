@@ -1,5 +1,5 @@
 -- Document 01, "Words from the host", and T-07: the address, MOX, and the fields of each word by their bits. Assumes nothing.
-use Rattle.std.specs.Prelude.{ℕ, suc, ◌+◌, ◌-◌, Bool, false, cond, ◌&&◌, List, [], ◌∷◌, eqb, leb, set}
+use Rattle.std.specs.Prelude.{ℕ, suc, Result, Ok, Err, ◌+◌, ◌-◌, Bool, false, cond, ◌&&◌, List, [], ◌∷◌, eqb, leb, set}
 use Rattle.wire.specs.Answers.{Test, reserving}
 use Rattle.wire.specs.Fields.{bits, bit, on}
 use Rattle.wire.specs.Lists.{tab}
@@ -12,10 +12,9 @@ use Rattle.host_record.specs.declared.record.HighPass.{HighPass}
 use Rattle.host_record.specs.declared.record.LowPass.{LowPass}
 use Rattle.host_record.specs.declared.record.Front.{Front}
 use Rattle.host_record.specs.declared.choices.Source10.{Source10}
-use Rattle.host_record.specs.declared.choices.FoundSource10.{FoundSource10}
 use Rattle.host_record.specs.declared.choices.Relay.{Relay}
-use Rattle.host_record.specs.declared.choices.FoundRelay.{FoundRelay}
-use Rattle.host_words.specs.declared.Control.{Control}
+use Rattle.host_record.specs.declared.choices.Unassigned.{Unassigned}
+use Rattle.wire.specs.declared.control.Control.{Control}
 
 -- "C0 bits 7-1 are the address"
 abbrev pub address : Control → ℕ
@@ -57,13 +56,13 @@ abbrev pub unassigned : Control → List Test
 unassigned c = reserving (is_set c)
 
 -- what a code names, and the given choice where it names none
-abbrev pub source10_or : FoundSource10 → Source10 → Source10
-source10_or (FoundSource10.Named source) given = source
-source10_or FoundSource10.Unassigned given = given
+abbrev pub source10_or : Result Source10 Unassigned → Source10 → Source10
+source10_or (Ok source) given = source
+source10_or (Err none) given = given
 
-abbrev pub relay_or : FoundRelay → Relay → Relay
-relay_or (FoundRelay.Named relay) given = relay
-relay_or FoundRelay.Unassigned given = given
+abbrev pub relay_or : Result Relay Unassigned → Relay → Relay
+relay_or (Ok relay) given = relay
+relay_or (Err none) given = given
 
 -- word 9: "C2 bits 0 to 7", "C3 bits 0 to 7", "C4 bits 0 to 6"
 abbrev pub controls_of : ℕ → Controls
