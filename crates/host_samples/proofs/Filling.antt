@@ -5,7 +5,7 @@ use Prim.Native.Nat.{ℕ, ◌+◌, ◌-◌, ◌*◌, ◌≤◌}
 use native.Mathlib.Nat.{le_trans, mul-le-mul_right, suc-mul, add-sub_cancel_left}
 use native.Mathlib.Numerals.{add-one}
 use native.Mathlib.Omega.{arith}
-use borrow.Rule.Slice.PartMut.{put_mid, mid_of, mid_len}
+use borrow.Rule.Slice.PartMut.{put_mid}
 use lib.ListN.{length, drop, length-append, length-drop, drop_of_length-le}
 use lib.Seq.{drop-length, take_at, drop_at, drop-drop}
 use Rattle.wire.proofs.Lists.{length-tabs}
@@ -17,10 +17,6 @@ module _ {A : Type 0} where
   put_rest n head rest ys long =
       let left : length (head ++ rest) - n ≡ length rest = rw (length-append head rest) (omega arith) in
       rw (left, take_at head rest n long, drop_at head rest n long, drop-length rest, append-nil ys)
-
-  -- the part that is lent has k elements
-  pub part_long : (k n : ℕ) (xs : List A) → n * k + k ≤ length xs → length (mid_of (n * k) (n * k + k - n * k) xs) ≡ k
-  part_long k n xs fits = mid_len (n * k) (n * k + k) xs fits ∙ add-sub_cancel_left (n * k) k
 
   module _ (k : ℕ) (f : ℕ → List A) (xs : List A) where
     -- the first n parts, of k elements each, written over the start of xs

@@ -1,24 +1,19 @@
 -- A host payload as a part of its frame, and where its numbers stand: in their slots, and in the payload as a whole. Assumes nothing.
 use mathlib.Core.Path.{◌≡◌, refl, sym, ap, ap₂, ◌∙◌}
 use mathlib.Core.List.{List, [], ◌∷◌}
-use Prim.Native.Nat.{ℕ, zero, suc, ◌+◌, ◌-◌, ◌*◌, ◌/◌, ◌%◌, ◌^◌, ◌<◌}
-use native.Mathlib.Nat.{zero-add, mul_assoc}
+use Prim.Native.Nat.{ℕ, zero, suc, ◌+◌, ◌-◌, ◌*◌, ◌/◌, ◌%◌, ◌<◌, ◌≤◌}
+use native.Mathlib.Nat.{zero-add, zero-mul, suc-mul, mul_assoc}
 use native.Mathlib.Omega.{arith}
 use lib.IntN.{ℤ, pos}
 use lib.ListN.{length, get_or, take, drop, length-drop}
-use lib.Seq.{take_all, get_or-take, get_or-drop}
-use lib.Signed.{mag}
-use mir.Facts.{to_z-of_z}
-use mir.Syntax.{w16}
-use mir.Val.{to_z, of_z}
+use lib.Seq.{take_all, drop-drop, get_or-take, get_or-drop}
+use Rattle.std.proofs.lemmas.List.{take-take}
+use Rattle.std.proofs.lemmas.Slice.{between_is}
+use Rattle.std.specs.Simd.{first_chunks}
 use Rattle.wire.proofs.Lists.{length-tabs, tab-same, tabs-same, tab-parts, tabs-groups}
 use Rattle.wire.specs.Lists.{tab, tabs}
 use Rattle.wire.specs.Numbers.{be, signed}
 use Rattle.host_samples.specs.Samples.{pair_of, standing, pair, slot_number, number, pair_bytes, pairs_from, payload_of, payload_from}
-
--- a number of 16 bits, as the machine holds it
-pub held : (z : ℤ) → mag z < 2 ^ 15 → to_z w16 (of_z w16 z) ≡ z
-held z fits = to_z-of_z {w = w16} {z = z} (record { sfits = fits })
 
 -- the payload as it is passed on
 pub payload_part : (f : List ℕ) → take (length f - 8) (drop 8 f) ≡ payload_of f
@@ -63,12 +58,11 @@ standing-in t j h = standing_on t j ∙ ap (λ i. t * 4 + i) (standing-low j h)
 pub standing-fits : (q k : ℕ) → k < q * 4 → standing k < q * 4
 standing-fits q k h = let inside = pair_of-fits (k % 4) (omega arith) in omega arith
 
--- the last arm of a `match` that has tested the first three
-pub pair_of-last : (j : ℕ) → ((Unit {0} × (j ≡ 0 → ⊥)) × (j ≡ 1 → ⊥)) × (j ≡ 2 → ⊥) → 2 ≡ pair_of j
-pair_of-last zero other = absurd (other.0.0.1 refl)
-pair_of-last (suc zero) other = absurd (other.0.1 refl)
-pair_of-last (suc (suc zero)) other = absurd (other.1 refl)
-pair_of-last (suc (suc (suc j))) other = refl
+-- chunk t of the first n
+pub chunk_at : {A : Type 0} (k n : ℕ) (xs : List A) (t : ℕ) → t < n → get_or (first_chunks k n xs) t [] ≡ take k (drop (t * k) xs)
+chunk_at k zero xs t h = absurd (omega arith)
+chunk_at k (suc n) xs zero h = rw (zero-mul k)
+chunk_at k (suc n) xs (suc t) h = chunk_at k n (drop k xs) t (omega arith) ∙ ap (λ l. take k l) (drop-drop (t * k) k xs ∙ rw (suc-mul t k) (ap (λ i. drop i xs) (omega arith)))
 
 -- slot t of a payload, which is passed on as a part of it
 abbrev pub slot_at : List ℕ → ℕ → List ℕ
@@ -101,12 +95,20 @@ slot_by_slot n payload =
 abbrev pub group_at : ℕ → List ℤ → ℕ → List ℤ
 group_at k audio t = take k (drop (t * k) audio)
 
--- the bytes group by group, of q slots each, are the bytes of all
-pub group_by_group : (n q : ℕ) (audio : List ℤ) → tabs n (λ t. pairs_from (q * 4) (group_at (q * 4) audio t)) ≡ pairs_from (n * (q * 4)) audio
+-- group t of the first n numbers
+pub group_of_first : (k n : ℕ) (audio : List ℤ) (t : ℕ) → t * k + k ≤ n → group_at k (take n audio) t ≡ group_at k audio t
+group_of_first k n audio t inside = ap (λ l. take k l) (sym (between_is audio (t * k) n)) ∙ take-take k (n - t * k) (drop (t * k) audio) (omega arith)
+
+-- the bytes of group t, of q slots
+abbrev pub slots_of : ℕ → List ℤ → ℕ → List ℕ
+slots_of q audio t = pairs_from (q * 4) (group_at (q * 4) audio t)
+
+-- the bytes group by group are the bytes of all
+pub group_by_group : (n q : ℕ) (audio : List ℤ) → tabs n (slots_of q audio) ≡ pairs_from (n * (q * 4)) audio
 unfolding pairs_from
 group_by_group n q audio =
     let written : ℕ → List ℕ = λ m. pair_bytes (get_or audio (standing m) (pos 0)) in
-    tabs-same n (λ t. pairs_from (q * 4) (group_at (q * 4) audio t)) (λ t. tabs (q * 4) (λ j. written (t * (q * 4) + j)))
+    tabs-same n (slots_of q audio) (λ t. tabs (q * 4) (λ j. written (t * (q * 4) + j)))
     (λ t g. tabs-same (q * 4) (λ j. pair_bytes (get_or (group_at (q * 4) audio t) (standing j) (pos 0))) (λ j. written (t * (q * 4) + j))
     (λ j h.
     ap pair_bytes

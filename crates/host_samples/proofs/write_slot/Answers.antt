@@ -9,5 +9,5 @@ use Rattle.host_samples.proofs.write_slot.Goals as goal
 pub returns : goal.returns
 unfolding pairs_from
 returns c =
-    all_laid _ _ _ _ _ (λ t. refl) _ _ c.loop-m.invariant.1 (omega arith)
-    ∙ sets-all c.args.slot.now (pairs_from 4 c.args.numbers.now) (sym c.requires.0)
+    all_laid _ _ _ _ _ (λ t. refl) _ _ c.loop-m.invariant (omega arith)
+    ∙ sets-all c.args.slot.now (pairs_from 4 c.args.numbers.now) (sym c.requires)

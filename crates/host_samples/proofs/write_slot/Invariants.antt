@@ -1,9 +1,8 @@
 -- The loop of `host_samples::write_slot`: each turn lays the two bytes of one number more. Assumes nothing.
-use mathlib.Core.Path.{◌≡◌}
 use mathlib.Core.List.{List}
-use Prim.Native.Nat.{ℕ, ◌-◌}
+use Prim.Native.Nat.{ℕ}
 use lib.IntN.{ℤ, pos}
-use lib.ListN.{length, get_or}
+use lib.ListN.{get_or}
 use Rattle.wire.proofs.Laid.{Laid}
 use Rattle.host_samples.specs.Samples.{standing, pair_bytes}
 use Rattle.host_samples.proofs.write_slot.Given as goal
@@ -12,7 +11,4 @@ abbrev written : List ℤ → ℕ → List ℕ
 written numbers m = pair_bytes (get_or numbers (standing m) (pos 0))
 
 abbrev pub invariant-loop-m : goal.invariant-loop-m
-invariant-loop-m l = (length l.numbers ≡ 4) × Laid 0 2 4 (written l.numbers) l.initial.slot l.m l.slot
-
-abbrev pub decreases-loop-m : goal.decreases-loop-m
-decreases-loop-m l = 4 - l.m
+invariant-loop-m l = Laid 0 2 4 (written l.numbers) l.initial.slot l.m l.slot
