@@ -6,7 +6,7 @@ use Prim.Native.Nat.{ℕ, ◌*◌, ◌<◌}
 use native.Mathlib.Omega.{arith}
 use lib.IntN.{ℤ}
 use lib.ListN.{length}
-use Rattle.wire.specs.declared.Answer.TheVariants.{Accepted}
+use Rattle.wire.specs.Answers.{Accepted}
 use Rattle.radio_status.specs.Record.{fresh_status}
 use Rattle.radio_status.specs.Words.{word_of, applied}
 use Rattle.radio_status.specs.declared.record.Status.{Status}

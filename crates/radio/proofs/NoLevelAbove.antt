@@ -6,20 +6,20 @@ use Prim.Native.Nat.{ℕ}
 use native.Mathlib.Omega.{arith}
 use lib.IntN.{ℤ}
 use lib.ListN.{length}
-use Rattle.wire.specs.Answers.{accepts}
+use Rattle.std.specs.Prelude.{Result, Ok, Err, IfOk}
+use Rattle.wire.specs.Answers.{Answer, Accepted, accepts}
 use Rattle.wire.specs.Numbers.{Bytes}
-use Rattle.wire.specs.declared.Answer.{Answer}
-use Rattle.wire.specs.declared.Answer.TheVariants.{Accepted}
+use Rattle.wire.specs.declared.Refusal.{Refusal}
 use Rattle.wire.proofs.Cases.{by_test}
 use Rattle.wire.proofs.First.{accepts-only}
 use Rattle.radio_status.specs.Control.{Leveled, LeveledWord}
 use Rattle.radio_status.specs.Record.{fresh_status}
 use Rattle.radio_status.specs.Words.{address}
 use Rattle.radio_status.specs.declared.record.Status.{Status}
+use Rattle.radio_status.specs.declared.words.Word.{Word}
 use Rattle.radio_status.proofs.TwelveBits.{word_leveled, levels-applied}
 use Rattle.radio.specs.InTurn.{Call, status_after, OfBytes}
 use Rattle.radio.specs.Read.{byte, level_answer, answer_of, taken, refused, read_of, left, Outcome}
-use Rattle.radio.specs.declared.Updated.{Updated}
 use Rattle.radio.proofs.Cases.{good, read_taken, read-refused}
 
 -- one read, accepted or refused: its word, and its record
@@ -49,12 +49,14 @@ module _ (frame : List ℕ) (n : ℕ) (iq mic : List ℤ) (s : Status) where
         (λ a. leveled)
 
     -- and so of what an update gives and leaves, since its contract is the same equation
-    module _ (r : Updated) (s₁ : Status) (iq₁ mic₁ : List ℤ) (gave : left r s₁ iq₁ mic₁ ≡ read_of frame n iq mic s) where
-      pub update_word_levels : LeveledWord r.word
-      update_word_levels = subst⁻¹ LeveledWord (ap (λ (o : Outcome). o.reading.word) gave) word_levels
+    module _ (s₁ : Status) (iq₁ mic₁ : List ℤ) where
+      pub update_word_levels : (r : Result Word Refusal) → left r s₁ iq₁ mic₁ ≡ read_of frame n iq mic s → IfOk r LeveledWord
+      update_word_levels (Ok w) gave = subst⁻¹ LeveledWord (ap (λ (o : Outcome). o.reading.word) gave) word_levels
+      update_word_levels (Err e) gave = tt
 
-      pub update_levels_stay : Leveled s → Leveled s₁
-      update_levels_stay leveled = subst⁻¹ Leveled (ap (λ (o : Outcome). o.reading.status) gave) (levels_stay leveled)
+      pub update_levels_stay : (r : Result Word Refusal) → left r s₁ iq₁ mic₁ ≡ read_of frame n iq mic s → Leveled s → Leveled s₁
+      update_levels_stay (Ok w) gave leveled = subst⁻¹ Leveled (ap (λ (o : Outcome). o.reading.status) gave) (levels_stay leveled)
+      update_levels_stay (Err e) gave leveled = subst⁻¹ Leveled (ap (λ (o : Outcome). o.reading.status) gave) (levels_stay leveled)
 
 -- reads one after another
 pub all_levels_stay : (calls : List Call) (s : Status) → OfBytes calls → Leveled s → Leveled (status_after calls s)

@@ -4,9 +4,8 @@ use mathlib.Core.List.{List, ◌++◌}
 use Prim.Native.Nat.{ℕ, ◌≤◌}
 use lib.IntN.{ℤ}
 use lib.ListN.{length, get_or, take, drop, replicate}
-use Rattle.wire.specs.Answers.{first}
+use Rattle.wire.specs.Answers.{Accepted, first}
 use Rattle.wire.specs.Lists.{over}
-use Rattle.wire.specs.declared.Answer.TheVariants.{Accepted}
 use Rattle.layout.specs.Slots.{slots, values, padding}
 use Rattle.layout.proofs.Lookup.{range}
 use Rattle.wire.specs.Numbers.{Samples16}

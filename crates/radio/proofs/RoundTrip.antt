@@ -10,7 +10,7 @@ use mathlib.Core.List.{List, ◌++◌}
 use Prim.Native.Nat.{ℕ, ◌≤◌}
 use lib.IntN.{ℤ}
 use lib.ListN.{length, take, drop}
-use Rattle.wire.specs.declared.Answer.TheVariants.{Accepted}
+use Rattle.wire.specs.Answers.{Accepted}
 use Rattle.layout.specs.Slots.{slots, values}
 use Rattle.wire.specs.Fields.{bit}
 use Rattle.wire.specs.Numbers.{Bytes, Samples16}
@@ -18,7 +18,7 @@ use Rattle.radio_status.specs.RoundTrip.{word_from, with_keys}
 use Rattle.radio_status.specs.Words.{address, carried}
 use Rattle.radio_status.specs.Control.{status_fits}
 use Rattle.radio_status.specs.declared.record.Status.{Status}
-use Rattle.radio.specs.Read.{byte, read_of, gave}
+use Rattle.radio.specs.Read.{byte, read_of, outcome}
 use Rattle.radio.specs.Write.{frame_of, write_of, gave as wrote}
 use Rattle.radio.proofs.Cases.{good, read_accepted, read_taken, read_gives}
 use Rattle.radio.proofs.ReadBack.{answer_back, word_again, record_again, iq-again, mic_again}
@@ -28,7 +28,7 @@ use Rattle.radio.proofs.WriteCases as write
 -- A frame that was written from a record for word w, read into any record and into any slices that are long enough, gives the samples,
 -- the word, DOT, DASH and PTT, and every field that the word carries; the rest of the record and of the slices is as it was.
 module _ (s : Status) (w n : ℕ) (iq mic : List ℤ) (lent : List ℕ) (into : Status) (iq' mic' : List ℤ) where
-  pub reading_what_was_written : Samples16 mic → (write_of s w n iq mic lent).answer ≡ Accepted → values n ≤ length iq' → slots n ≤ length mic' → read_of (write_of s w n iq mic lent).frame n iq' mic' into ≡ gave (record { answer = Accepted; word = word_from s w; status = carried (word_from s w) (with_keys s into) }) (take (values n) iq ++ drop (values n) iq') (take (slots n) mic ++ drop (slots n) mic')
+  pub reading_what_was_written : Samples16 mic → (write_of s w n iq mic lent).answer ≡ Accepted → values n ≤ length iq' → slots n ≤ length mic' → read_of (write_of s w n iq mic lent).frame n iq' mic' into ≡ outcome (record { answer = Accepted; word = word_from s w; status = carried (word_from s w) (with_keys s into) }) (take (values n) iq ++ drop (values n) iq') (take (slots n) mic ++ drop (slots n) mic')
   reading_what_was_written small accepted iq_room mic_room =
       let written = write.write_accepted s w n iq mic lent accepted in
       let passed = write.good s w n iq (length mic) (length lent) written in

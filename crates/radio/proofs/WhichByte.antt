@@ -8,16 +8,17 @@ use native.Mathlib.Omega.{arith}
 use borrow.Author.Tests.{eqb-true, not-false, not-true}
 use lib.IntN.{ℤ}
 use lib.ListN.{length, take, drop}
-use Rattle.wire.specs.Answers.{Test, ◌gives◌, first, number_of, place_of, reserving, CauseNamed}
+use Rattle.std.specs.Prelude.{Result}
+use Rattle.wire.specs.Answers.{Answer, Test, ◌gives◌, first, number_of, place_of, reserving, CauseNamed}
 use Rattle.wire.specs.Places.{FirstNot}
-use Rattle.wire.specs.declared.Answer.{Answer}
+use Rattle.wire.specs.declared.Refusal.{Refusal}
 use Rattle.wire.proofs.Causes.{cause_named}
 use Rattle.wire.proofs.First.{passing, stopping, no_place}
 use Rattle.wire.proofs.Named.{sync_told, named_behind}
 use Rattle.radio_status.specs.declared.record.Status.{Status}
+use Rattle.radio_status.specs.declared.words.Word.{Word}
 use Rattle.radio.specs.Read.{tests, answer_of, read_of, Outcome, left, padding_start, padded, bad_padding, above}
 use Rattle.radio.specs.WhichByte.{TellsWhich}
-use Rattle.radio.specs.declared.Updated.{Updated}
 use Rattle.radio.proofs.Cases.{read_answer}
 
 module _ (frame : List ℕ) (n iq mic : ℕ) where
@@ -51,5 +52,5 @@ pub which_byte : (frame : List ℕ) (n : ℕ) (iq mic : List ℤ) (s : Status) �
 which_byte frame n iq mic s = subst⁻¹ (TellsWhich frame n) (read_answer frame n iq mic s) (tells frame n (length iq) (length mic))
 
 -- and so of what an update gives, since its contract is the same equation
-pub update_which_byte : (frame : List ℕ) (n : ℕ) (iq mic : List ℤ) (s : Status) (r : Updated) (s₁ : Status) (iq₁ mic₁ : List ℤ) → left r s₁ iq₁ mic₁ ≡ read_of frame n iq mic s → TellsWhich frame n r.answer
+pub update_which_byte : (frame : List ℕ) (n : ℕ) (iq mic : List ℤ) (s : Status) (r : Result Word Refusal) (s₁ : Status) (iq₁ mic₁ : List ℤ) → left r s₁ iq₁ mic₁ ≡ read_of frame n iq mic s → TellsWhich frame n (left r s₁ iq₁ mic₁).reading.answer
 update_which_byte frame n iq mic s r s₁ iq₁ mic₁ gave = subst⁻¹ (TellsWhich frame n) (ap (λ (o : Outcome). o.reading.answer) gave) (which_byte frame n iq mic s)

@@ -12,7 +12,7 @@ use lib.Seq.{drop-drop, get_or-drop}
 use Rattle.wire.specs.Fields.{bit}
 use Rattle.wire.specs.Lists.{over, tabs}
 use Rattle.wire.specs.Numbers.{Bytes}
-use Rattle.wire.specs.declared.Answer.TheVariants.{Accepted}
+use Rattle.wire.specs.Answers.{Accepted}
 use Rattle.wire.proofs.Cases.{both_true}
 use Rattle.wire.proofs.Everywhere.{zeros_are}
 use Rattle.wire.proofs.Lists.{tab-get_or, length_over}

@@ -2,68 +2,40 @@
 use mathlib.Core.Path.{◌≡◌, refl, sym, ap, ◌∙◌}
 use mathlib.Core.Bool.{true, false, ◌&&◌}
 use mathlib.Core.List.{List}
-use Prim.Native.Nat.{ℕ, ◌<◌, ◌≤◌}
-use borrow.Author.Tests.{eq-eqb, ne_eqb, lt-ltb, le-ltb, le-leb, lt-leb, eqb-true, ltb-false, leb-true, not-false}
+use Prim.Native.Nat.{ℕ, ◌≤◌}
+use borrow.Author.Tests.{eq-eqb, le-ltb, le-leb, eqb-true, ltb-false, leb-true, not-false}
 use lib.Dec.{leb, ltb}
 use lib.IntN.{ℤ}
 use lib.ListN.{length, take}
-use Rattle.wire.specs.Answers.{accepts, in_order}
+use Rattle.std.specs.Prelude.{Ok, Err}
+use Rattle.wire.specs.Answers.{Answer, Accepted, accepts, in_order}
 use Rattle.wire.specs.Every.{all_fit}
-use Rattle.wire.specs.declared.Answer.{Answer}
-use Rattle.wire.specs.declared.Answer.TheVariants.{Accepted, BadCount, Length, ShortBuffer, Range}
+use Rattle.wire.specs.declared.Refusal.{Refusal}
+use Rattle.wire.specs.declared.Refusal.TheVariants.{BadCount}
 use Rattle.wire.proofs.Cases.{both_true, neither}
 use Rattle.wire.proofs.First.{accepted_none}
 use Rattle.layout.specs.Slots.{counted, slots, values}
+use Rattle.layout.specs.Table.{lookup}
+use Rattle.layout.specs.declared.row.Row.{Row}
+use Rattle.layout.proofs.Lookup.{found, not_found}
 use Rattle.radio_status.specs.Control.{status_fits}
 use Rattle.radio_status.specs.declared.record.Status.{Status}
+use Rattle.radio.proofs.Cases.{not_accepted}
 use Rattle.radio.specs.Write.{tests, later_answer, answer_of, in_range, frame_of, gave, write_of}
 
 module _ (s : Status) (w n : ℕ) (iq : List ℤ) where
-  pub bad_sample : all_fit (take (values n) iq) ≡ false → in_range s w n iq ≡ false
+  pub range_good : all_fit (take (values n) iq) ≡ true → status_fits s ≡ true → w ≤ 4 → in_range s w n iq ≡ true
   unfolding in_range
-  bad_sample out = rw out
-
-  module _ (fit : all_fit (take (values n) iq) ≡ true) where
-    pub unwritable : status_fits s ≡ false → in_range s w n iq ≡ false
-    unfolding in_range
-    unwritable out = rw fit (ap (λ b. b && leb w 4) out)
-
-    module _ (status_fits_lem : status_fits s ≡ true) where
-      pub bad_word : 4 < w → in_range s w n iq ≡ false
-      unfolding in_range
-      bad_word out = rw (fit, status_fits_lem, lt-leb w 4 out)
-
-      pub range_good : w ≤ 4 → in_range s w n iq ≡ true
-      unfolding in_range
-      range_good listed = rw (fit, status_fits_lem, le-leb w 4 listed)
+  range_good fit writable listed = rw (fit, writable, le-leb w 4 listed)
 
 module _ (s : Status) (w n : ℕ) (iq : List ℤ) (mic frame : ℕ) where
   -- the refusals of `write` stand in the order of the nine
   pub write_in_order : in_order (tests s w n iq mic frame) ≡ true
   write_in_order = refl
 
-  pub wrong_length : (frame ≡ 512 → ⊥) → later_answer s w n iq mic frame ≡ Length
+  pub all_good : frame ≡ 512 → values n ≤ length iq → slots n ≤ mic → in_range s w n iq ≡ true → later_answer s w n iq mic frame ≡ Accepted
   unfolding later_answer
-  wrong_length other = rw (ne_eqb _ _ other)
-
-  module _ (long : frame ≡ 512) where
-    pub few_values : length iq < values n → later_answer s w n iq mic frame ≡ ShortBuffer
-    unfolding later_answer
-    few_values short = rw (eq-eqb _ _ long, lt-ltb _ _ short)
-
-    module _ (iq_room : values n ≤ length iq) where
-      pub few_slots : mic < slots n → later_answer s w n iq mic frame ≡ ShortBuffer
-      unfolding later_answer
-      few_slots short = rw (eq-eqb _ _ long, le-ltb _ _ iq_room, lt-ltb _ _ short)
-
-      module _ (mic_room : slots n ≤ mic) where
-        pub out_of_range : in_range s w n iq ≡ false → later_answer s w n iq mic frame ≡ Range
-        unfolding later_answer
-        out_of_range out = rw (eq-eqb _ _ long, le-ltb _ _ iq_room, le-ltb _ _ mic_room, out)
-
-        pub all_good : in_range s w n iq ≡ true → later_answer s w n iq mic frame ≡ Accepted
-        unfolding later_answer
-        all_good fit = rw (eq-eqb _ _ long, le-ltb _ _ iq_room, le-ltb _ _ mic_room, fit)
+  all_good long iq_room mic_room fit = rw (eq-eqb _ _ long, le-ltb _ _ iq_room, le-ltb _ _ mic_room, fit)
 
   -- what an accepted write passed
   pub record Good : Type 0 where
@@ -92,7 +64,7 @@ module _ (s : Status) (w n : ℕ) (iq : List ℤ) (mic frame : ℕ) where
         listed = leb-true w 4 word.1;
       }
 
-  pub bad_count : counted n ≡ false → answer_of s w n iq mic frame ≡ BadCount
+  pub bad_count : counted n ≡ false → answer_of s w n iq mic frame ≡ Err BadCount
   unfolding answer_of
   bad_count other = rw other
 
@@ -103,7 +75,27 @@ module _ (s : Status) (w n : ℕ) (iq : List ℤ) (mic frame : ℕ) where
 module _ (s : Status) (w n : ℕ) (iq mic : List ℤ) (frame : List ℕ) where
   pub write_refused : (a : Answer) → answer_of s w n iq (length mic) (length frame) ≡ a → accepts a ≡ false → write_of s w n iq mic frame ≡ gave a frame
   unfolding write_of
-  write_refused a is not_accepted = rw (is, not_accepted)
+  write_refused a is other = rw (is, other)
+
+  -- a write is refused for its count, or by a later test
+  gave_refusal : (e : Refusal) → answer_of s w n iq (length mic) (length frame) ≡ Err e → gave (Err e) frame ≡ write_of s w n iq mic frame
+  gave_refusal e is = sym (write_refused (Err e) is (not_accepted e))
+
+  pub uncounted : (e : Refusal) → lookup n ≡ Err e → gave (Err e) frame ≡ write_of s w n iq mic frame
+  uncounted e missing =
+      let none = not_found n e missing in
+      gave_refusal e (bad_count s w n iq (length mic) (length frame) none.0 ∙ sym (ap Err none.1))
+
+  module _ (r : Row) (row : lookup n ≡ Ok r) where
+    pub untested : (e : Refusal) → later_answer s w r.receivers iq (length mic) (length frame) ≡ Err e → gave (Err e) frame ≡ write_of s w n iq mic frame
+    untested e is =
+        let of_count = found n r row in
+        gave_refusal e (answer-counted s w n iq (length mic) (length frame) of_count.0 ∙ (rw of_count.1 at is))
+
+    pub passed : later_answer s w r.receivers iq (length mic) (length frame) ≡ Accepted → answer_of s w n iq (length mic) (length frame) ≡ Accepted
+    passed is =
+        let of_count = found n r row in
+        answer-counted s w n iq (length mic) (length frame) of_count.0 ∙ (rw of_count.1 at is)
 
   pub write_taken : answer_of s w n iq (length mic) (length frame) ≡ Accepted → write_of s w n iq mic frame ≡ gave Accepted (frame_of s w n iq mic)
   unfolding write_of

@@ -1,24 +1,22 @@
 -- Reading a radio frame: the refusals in the order of document 01's table, and the whole outcome. Assumes nothing.
-use Rattle.std.specs.Prelude.{ℕ, ◌+◌, ◌-◌, Bool, cond, not, ◌||◌, List, [], ◌∷◌, ◌++◌, eqb, ltb, ℤ, length, get_or, drop}
-use Rattle.wire.specs.Answers.{Test, ◌gives◌, first, accepts, reserving}
+use Rattle.std.specs.Prelude.{ℕ, ◌+◌, ◌-◌, Bool, cond, not, ◌||◌, List, [], ◌∷◌, ◌++◌, eqb, ltb, ℤ, length, get_or, drop, Result, Ok, Err}
+use Rattle.wire.specs.Answers.{Answer, Accepted, Test, ◌gives◌, first, accepts, reserving}
 use Rattle.wire.specs.Lists.{over}
 use Rattle.wire.specs.Sync.{sync_at, no_sync}
 use Rattle.wire.specs.Places.{first_other}
 use Rattle.wire.specs.Every.{all_zero}
 use Rattle.wire.specs.declared.Cause.{Cause}
-use Rattle.wire.specs.declared.Answer.{Answer}
-use Rattle.wire.specs.declared.Answer.TheVariants.{Accepted, BadCount, Length, ShortBuffer, Padding}
+use Rattle.wire.specs.declared.Refusal.{Refusal}
+use Rattle.wire.specs.declared.Refusal.TheVariants.{BadCount, Length, ShortBuffer, Padding}
 use Rattle.layout.specs.Slots.{counted, slots, padding, values}
 use Rattle.radio_status.specs.Levels.{is_above, levels_at}
 use Rattle.radio_status.specs.Words.{address, word_with, word_of, applied}
 use Rattle.radio_status.specs.declared.levels.TwoLevels.{TwoLevels}
-use Rattle.radio_status.specs.declared.levels.Levels.{Levels}
 use Rattle.radio_status.specs.declared.record.Status.{Status}
 use Rattle.radio_status.specs.declared.words.Word.{Word}
 use Rattle.radio_status.specs.declared.words.Word.TheVariants.{Unlisted}
 use Rattle.radio_samples.specs.Samples.{iq_at, mic_at}
-use Rattle.radio.specs.declared.Reading.{Reading}
-use Rattle.radio.specs.declared.Updated.{Updated}
+use Rattle.radio.specs.declared.Reading.{Reading as Given}
 
 -- "7F 7F 7F, then C0 to C4, then 504 bytes of payload"
 abbrev pub byte : List ℕ → ℕ → ℕ
@@ -37,8 +35,8 @@ above frame = is_above (address (byte frame 3)) (byte frame 4) (byte frame 6)
 unfoldable pub level_answer : List ℕ → Answer
 level_answer frame = first (reserving (above frame))
 
--- the levels as they are read, both numbers or this answer, and the word with them
-abbrev pub levels_in : List ℕ → Levels
+-- the levels as they are read, both numbers or its refusal, and the word with them
+abbrev pub levels_in : List ℕ → Result TwoLevels Refusal
 levels_in frame = levels_at (address (byte frame 3)) (byte frame 4) (byte frame 5) (byte frame 6) (byte frame 7)
 
 abbrev pub word_in : List ℕ → TwoLevels → Word
@@ -56,7 +54,7 @@ abbrev pub padded : ℕ → List ℕ → Bool
 padded n frame = all_zero (drop (padding_start n) frame)
 
 -- T-02: "for PADDING the first non-zero one (as a byte of the frame, from 0)"
-abbrev pub bad_padding : ℕ → List ℕ → Answer
+abbrev pub bad_padding : ℕ → List ℕ → Refusal
 bad_padding n frame = Padding (padding_start n + first_other 0 (drop (padding_start n) frame))
 
 -- the tests of a frame for n receivers, with slices of the lengths iq and mic; before them that of the count, and after them those of its
@@ -75,25 +73,37 @@ frame_answer frame n iq mic = first (frame_tests frame n iq mic)
 abbrev pub tests : List ℕ → ℕ → ℕ → ℕ → List Test
 tests frame n iq mic = not (counted n) gives BadCount ∷ frame_tests frame n iq mic ++ reserving (above frame)
 
--- what a read leaves: what it gave, and the two slices at exit
+-- what a read tells: the answer, the word that came, and the record after it
+pub record Reading : Type 0 where
+  pub answer : Answer
+  pub word : Word
+  pub status : Status
+
+-- what a read leaves: what it tells, and the two slices at exit
 pub record Outcome : Type 0 where
   pub reading : Reading
   pub iq : List ℤ
   pub mic : List ℤ
 
-abbrev pub gave : Reading → List ℤ → List ℤ → Outcome
-gave r iq mic = record { reading = r; iq = iq; mic = mic }
-
--- the same of an update: what it gave, with the lent record at exit
-abbrev pub left : Updated → Status → List ℤ → List ℤ → Outcome
-left r s iq mic = gave (record { answer = r.answer; word = r.word; status = s }) iq mic
+abbrev pub outcome : Reading → List ℤ → List ℤ → Outcome
+outcome r iq mic = record { reading = r; iq = iq; mic = mic }
 
 -- a refusal writes nothing, returns the record given and the word unlisted 0
 abbrev pub refusal : Answer → Status → Reading
 refusal a s = record { answer = a; word = Unlisted 0; status = s }
 
 abbrev pub refused : Answer → List ℤ → List ℤ → Status → Outcome
-refused a iq mic s = gave (refusal a s) iq mic
+refused a iq mic s = outcome (refusal a s) iq mic
+
+-- what a call that was given a record s has left, by what it gave: a word and the record after it, or a refusal
+abbrev pub gave : Status → Result Given Refusal → List ℤ → List ℤ → Outcome
+gave s (Ok r) iq mic = outcome (record { answer = Accepted; word = r.word; status = r.status }) iq mic
+gave s (Err e) iq mic = refused (Err e) iq mic s
+
+-- the same of an update: the word that it gave or the refusal, with the lent record at exit
+abbrev pub left : Result Word Refusal → Status → List ℤ → List ℤ → Outcome
+left (Ok w) s iq mic = outcome (record { answer = Accepted; word = w; status = s }) iq mic
+left (Err e) s iq mic = refused (Err e) iq mic s
 
 -- an accepted frame: its word, the record after it, and every sample at the start of its slice
 abbrev pub acceptance : ℕ → Word → Status → Reading
@@ -101,7 +111,7 @@ acceptance c0 w s = record { answer = Accepted; word = w; status = applied c0 w 
 
 abbrev pub taken : List ℕ → ℕ → List ℤ → List ℤ → Status → Outcome
 taken frame n iq mic s =
-    gave (acceptance (byte frame 3) (word frame) s)
+    outcome (acceptance (byte frame 3) (word frame) s)
     (over (values n) (iq_at n (payload frame)) iq)
     (over (slots n) (mic_at n (payload frame)) mic)
 

@@ -1,8 +1,7 @@
 -- What change requests T-02 and T-08 say of the place beside an answer to a radio frame. Assumes nothing.
 use Rattle.std.specs.Prelude.{ℕ, ◌≡◌, List}
-use Rattle.wire.specs.Answers.{number_of, place_of, CauseNamed}
+use Rattle.wire.specs.Answers.{Answer, number_of, place_of, CauseNamed}
 use Rattle.wire.specs.Places.{FirstNot}
-use Rattle.wire.specs.declared.Answer.{Answer}
 use Rattle.radio.specs.Read.{padding_start, above}
 
 -- "for NO_SYNC the first of the bytes 0 to 2 that isn't 7F, for PADDING the first non-zero one (as a byte of the frame, from 0)"; for

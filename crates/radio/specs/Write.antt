@@ -1,10 +1,9 @@
 -- Writing a radio frame: every byte of it, the refusals in the order of document 01's table, and the whole outcome. Assumes nothing.
 use Rattle.std.specs.Prelude.{ℕ, Bool, cond, not, ◌&&◌, ◌||◌, List, [], ◌∷◌, ◌++◌, eqb, leb, ltb, ℤ, length, take, replicate}
-use Rattle.wire.specs.Answers.{Test, ◌gives◌, first, accepts}
+use Rattle.wire.specs.Answers.{Answer, Test, ◌gives◌, first, accepts}
 use Rattle.wire.specs.Every.{all_fit}
 use Rattle.wire.specs.Lists.{tabs}
-use Rattle.wire.specs.declared.Answer.{Answer}
-use Rattle.wire.specs.declared.Answer.TheVariants.{BadCount, Length, ShortBuffer, Range}
+use Rattle.wire.specs.declared.Refusal.TheVariants.{BadCount, Length, ShortBuffer, Range}
 use Rattle.layout.specs.Slots.{counted, slots, padding, values}
 use Rattle.radio_status.specs.Control.{header, status_fits}
 use Rattle.radio_status.specs.declared.record.Status.{Status}
