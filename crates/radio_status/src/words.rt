@@ -1,6 +1,6 @@
 // The words from the radio: decoding the five control bytes, and the record after a word.
 ghost use Rattle.std.specs.Prelude.{◌≡◌};
-ghost use Rattle.radio_status.specs.Words.{address, word_with, input_word, board_word, carried, applied};
+ghost use Rattle.radio_status.specs.Words.{address, word_with, word_number, input_word, board_word, carried, applied};
 
 use crate::levels::TwoLevels;
 use crate::record::{
@@ -32,6 +32,22 @@ pub enum Word {
     Supply(SupplyLevels),
     Board(BoardWord),
     Unlisted(u8),
+}
+
+// A word's number, which is its address.
+impl From<Word> for u8 {
+    ghost from_gives = { λ word number. number ≡ word_number word };
+
+    fn from(word: Word) -> u8 {
+        match word {
+            Word::Input(_) => 0,
+            Word::Forward(_) => 1,
+            Word::Reverse(_) => 2,
+            Word::Supply(_) => 3,
+            Word::Board(_) => 4,
+            Word::Unlisted(address) => address,
+        }
+    }
 }
 
 // The word that came. Of words 1 to 3 it has the levels that were read of their bytes.
