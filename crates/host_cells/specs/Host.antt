@@ -7,11 +7,22 @@ use Rattle.host_record.specs.declared.record.HighPass.{HighPass}
 use Rattle.host_record.specs.declared.record.Host.{Host}
 use Rattle.host_record.specs.declared.record.LowPass.{LowPass}
 use Rattle.cells.specs.Cells.{cell_of}
-use Rattle.host_cells.specs.declared.Codes.{Codes}
 
 -- the number of its cells, and so the place of the turn after them
 abbrev pub host_count : ℕ
 host_count = 62
+
+-- the codes of the named choices
+pub record Codes : Type 0 where
+  pub speed : ℕ
+  pub source10 : ℕ
+  pub source122 : ℕ
+  pub boards : ℕ
+  pub microphone : ℕ
+  pub attenuator : ℕ
+  pub antenna : ℕ
+  pub relay : ℕ
+  pub jack : ℕ
 
 abbrev pub codes_of : Host → Codes
 codes_of h =

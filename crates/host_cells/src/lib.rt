@@ -1,105 +1,67 @@
 // The host record as 62 cells, in the order of its fields.
 #![tactic(auto)]
 
-ghost use Rattle.std.specs.Prelude.{◌≡◌, ◌++◌};
+ghost use Rattle.std.specs.Prelude.{◌≡◌};
+ghost use Rattle.host_record.specs.Choices.{jack_code};
 ghost use Rattle.host_cells.specs.Host.{codes_of, word0_cells, tuned_cells, word9_cells, word10_cells, host_cells};
 
-use cells::put;
 use host_record::record::{Controls, Front, HighPass, Host, LowPass};
 
 // The number of its cells, and so the place of a builder's turn after them.
 pub const HOST: usize = 62;
 
+// Word 0's cells, the frequencies' and the drive's, word 9's, word 10's.
 pub fn host_cells(host: Host) -> [u32; HOST]
     ensures { result ≡ host_cells host }
 {
-    let codes = codes_of(host);
-    let word0 = word0_cells(host, codes, host.outputs, host.receivers);
-    let tuned = tuned_cells(host);
-    let word9 = word9_cells(host.controls, host.highpass, host.lowpass);
-    let word10 = word10_cells(host.front, codes.jack);
-    joined(&word0, &tuned, &word9, &word10)
+    let mut cells = [0u32; HOST];
+    cells[..19].copy_from_slice(&word0_cells(host));
+    cells[19..28].copy_from_slice(&tuned_cells(host));
+    cells[28..51].copy_from_slice(&word9_cells(host.controls, host.highpass, host.lowpass));
+    cells[51..].copy_from_slice(&word10_cells(host.front));
+    cells
 }
 
-// The codes of the named choices.
-#[derive(Clone, Copy)]
-pub(crate) struct Codes {
-    pub(crate) speed: u8,
-    pub(crate) source10: u8,
-    pub(crate) source122: u8,
-    pub(crate) boards: u8,
-    pub(crate) microphone: u8,
-    pub(crate) attenuator: u8,
-    pub(crate) antenna: u8,
-    pub(crate) relay: u8,
-    pub(crate) jack: u8,
-}
-
-pub(crate) fn codes_of(host: Host) -> Codes
-    ensures { result ≡ codes_of host }
-{
-    let speed = host.speed;
-    let source10 = host.source10;
-    let source122 = host.source122;
-    let boards = host.boards;
-    let microphone = host.microphone;
-    let attenuator = host.attenuator;
-    let antenna = host.antenna;
-    let relay = host.relay;
-    let front = host.front;
-    let jack = front.jack;
-    Codes {
-        speed: speed.code(),
-        source10: source10.code(),
-        source122: source122.code(),
-        boards: boards.code(),
-        microphone: microphone.code(),
-        attenuator: attenuator.code(),
-        antenna: antenna.code(),
-        relay: relay.code(),
-        jack: jack.code(),
-    }
-}
-
-pub(crate) fn word0_cells(host: Host, codes: Codes, outputs: u8, receivers: u8) -> [u32; 19]
-    ensures { result ≡ word0_cells host codes outputs receivers }
+pub(crate) fn word0_cells(host: Host) -> [u32; 19]
+    ensures { result ≡ word0_cells host (codes_of host) host.outputs host.receivers }
 {
     [
         host.mox as u32,
-        codes.speed as u32,
-        codes.source10 as u32,
-        codes.source122 as u32,
-        codes.boards as u32,
-        codes.microphone as u32,
+        u8::from(host.speed) as u32,
+        u8::from(host.source10) as u32,
+        u8::from(host.source122) as u32,
+        u8::from(host.boards) as u32,
+        u8::from(host.microphone) as u32,
         host.classe as u32,
-        outputs as u32,
-        codes.attenuator as u32,
+        host.outputs as u32,
+        u8::from(host.attenuator) as u32,
         host.preamp as u32,
         host.dither as u32,
         host.random as u32,
-        codes.antenna as u32,
+        u8::from(host.antenna) as u32,
         host.rxout as u32,
-        codes.relay as u32,
+        u8::from(host.relay) as u32,
         host.duplex as u32,
-        receivers as u32,
+        host.receivers as u32,
         host.timestamp as u32,
         host.common as u32,
     ]
 }
 
+// The frequencies, and the drive after them.
 pub(crate) fn tuned_cells(host: Host) -> [u32; 9]
     ensures { result ≡ tuned_cells host }
 {
-    let hz = host.frequencies;
+    let [hz1, hz2, hz3, hz4, hz5, hz6, hz7] = host.frequencies;
     [
         host.transmitter,
-        hz[0],
-        hz[1],
-        hz[2],
-        hz[3],
-        hz[4],
-        hz[5],
-        hz[6],
+        hz1,
+        hz2,
+        hz3,
+        hz4,
+        hz5,
+        hz6,
+        hz7,
         host.drive as u32,
     ]
 }
@@ -134,15 +96,15 @@ pub(crate) fn word9_cells(controls: Controls, highpass: HighPass, lowpass: LowPa
     ]
 }
 
-pub(crate) fn word10_cells(front: Front, jack: u8) -> [u32; 11]
-    ensures { result ≡ word10_cells front jack }
+pub(crate) fn word10_cells(front: Front) -> [u32; 11]
+    ensures { result ≡ word10_cells front (jack_code front.jack) }
 {
     [
         front.preamp1 as u32,
         front.preamp2 as u32,
         front.preamp3 as u32,
         front.preamp4 as u32,
-        jack as u32,
+        u8::from(front.jack) as u32,
         front.bias as u32,
         front.pttdisabled as u32,
         front.gain as u32,
@@ -150,21 +112,4 @@ pub(crate) fn word10_cells(front: Front, jack: u8) -> [u32; 11]
         front.c3 as u32,
         front.c4 as u32,
     ]
-}
-
-// Four parts of a record, one after another.
-pub(crate) fn joined(
-    word0: &[u32; 19],
-    tuned: &[u32; 9],
-    word9: &[u32; 23],
-    word10: &[u32; 11],
-) -> [u32; HOST]
-    ensures { result ≡ word0.now ++ tuned.now ++ word9.now ++ word10.now }
-{
-    let mut cells = [0u32; HOST];
-    put(&mut cells, 0, word0);
-    put(&mut cells, 19, tuned);
-    put(&mut cells, 28, word9);
-    put(&mut cells, 51, word10);
-    cells
 }
