@@ -14,7 +14,7 @@ use Rattle.host_words.specs.Words.{address, unassigned}
 use Rattle.host_record.specs.declared.record.Host.{Host}
 use Rattle.host_record.specs.declared.choices.Source10.{Source10}
 use Rattle.host_record.specs.declared.choices.Relay.{Relay}
-use Rattle.host_words.specs.declared.Control.{Control}
+use Rattle.wire.specs.declared.control.Control.{Control}
 use Rattle.host_turn.proofs.BitTrip.{switched, eight_back}
 use Rattle.host_turn.proofs.WordTrip.{control_from, c1_field, c4_field, front_c1_field}
 

@@ -22,7 +22,7 @@ use Rattle.host_words.specs.Words.{heard, source10_or, relay_or, front_of, last_
 use Rattle.host_record.specs.declared.record.Host.{Host}
 use Rattle.host_record.specs.declared.choices.Source10.{Source10}
 use Rattle.host_record.specs.declared.choices.Relay.{Relay}
-use Rattle.host_words.specs.declared.Control.{Control}
+use Rattle.wire.specs.declared.control.Control.{Control}
 use Rattle.host_turn.proofs.BitTrip.{bit-back, ones, eight_again}
 use Rattle.host_turn.proofs.Assigned.{Assigned}
 

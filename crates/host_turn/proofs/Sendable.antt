@@ -1,17 +1,18 @@
 -- A record that no test of its ranges refuses, and `begun` where a word can be sent and where not. Assumes nothing.
 use mathlib.Core.Path.{◌≡◌, refl, ap, ◌∙◌}
-use mathlib.Core.Bool.{and-false}
+use mathlib.Core.Bool.{false, and-false}
 use mathlib.Core.List.{List, ◌++◌}
 use Prim.Native.Nat.{ℕ, ◌+◌, ◌<◌, ◌≤◌}
 use native.Mathlib.Omega.{arith}
 use borrow.Author.Tests.{ne_eqb, le-leb, lt-leb, le-ltb, ltb-false}
 use lib.ListN.{length, drop}
 use lib.Seq.{sets-eq}
-use Rattle.wire.proofs.First.{None, accepted_none, none_accepted}
+use Rattle.wire.proofs.First.{None, accepted_none, none_accepted, only_accepted}
 use Rattle.wire.proofs.Header.{with_room}
-use Rattle.wire.specs.Answers.{first, number_of}
+use Rattle.std.specs.Prelude.{Err}
+use Rattle.wire.specs.Answers.{Accepted, first, number_of, accepts}
 use Rattle.wire.specs.Sync.{headed}
-use Rattle.wire.specs.declared.Answer.TheVariants.{Accepted}
+use Rattle.wire.specs.declared.Refusal.{Refusal}
 use Rattle.host_record.specs.declared.record.Host.{Host}
 use Rattle.host_words.specs.Words.{last_word, listed}
 use Rattle.host_turn.proofs.Saying.{length_head}
@@ -40,9 +41,11 @@ module _ (turn : ℕ) (h : Host) (frame : List ℕ) where
   unfolding begun
   past_last above = rw (lt-leb turn last_word above)
 
-  pub out_of_range : (number_of (first (ranges h)) ≡ 0 → ⊥) → begun turn h frame ≡ frame
+  pub out_of_range : {e : Refusal} → first (ranges h) ≡ Err e → begun turn h frame ≡ frame
   unfolding begun
-  out_of_range other = rw (ne_eqb (number_of (first (ranges h))) 0 other, and-false (listed turn))
+  out_of_range {e} refused =
+      let not_accepted : accepts (first (ranges h)) ≡ false = ne_eqb (number_of (first (ranges h))) 0 (λ z. let same = only_accepted (first (ranges h)) z in grind (arith, same, refused)) in
+      rw (not_accepted, and-false (listed turn))
 
   module _ (low : turn ≤ last_word) (range : InRange h) where
     pub sent : begun turn h frame ≡ headed (c0_of turn h.mox) (said turn h) frame

@@ -6,6 +6,7 @@ use Prim.Native.Nat.{ℕ, ◌+◌, ◌-◌, ◌^◌, ◌<◌, ◌≤◌}
 use native.Mathlib.Nat.{mod-eq_of_lt}
 use native.Mathlib.Omega.{arith}
 use lib.ListN.{get_or}
+use Rattle.std.specs.Prelude.{Ok}
 use Rattle.wire.proofs.Bytes.{be-bytes_of}
 use Rattle.wire.specs.Fields.{flag, fields}
 use Rattle.wire.specs.Numbers.{bytes_of}
@@ -21,9 +22,7 @@ use Rattle.host_record.specs.declared.record.Controls.{Controls}
 use Rattle.host_record.specs.declared.record.HighPass.{HighPass}
 use Rattle.host_record.specs.declared.record.LowPass.{LowPass}
 use Rattle.host_record.specs.declared.record.Front.{Front}
-use Rattle.host_record.specs.declared.choices.FoundRelay.{FoundRelay}
-use Rattle.host_record.specs.declared.choices.FoundSource10.{FoundSource10}
-use Rattle.host_words.specs.declared.Control.{Control}
+use Rattle.wire.specs.declared.control.Control.{Control}
 use Rattle.host_turn.proofs.BitTrip.{flag-fits, switched, field_back, ones, eight_back}
 
 -- the frequencies of a host record, as the language holds them
@@ -85,7 +84,7 @@ module _ (h : Host) where
   pub c1_field : (k : ℕ) → get_or (fields (2 ∷ 2 ∷ 1 ∷ 2 ∷ 1 ∷ []) (c1_of h)) k 0 ≡ get_or (speed_code h.speed ∷ source10_code h.source10 ∷ source122_code h.source122 ∷ boards_code h.boards ∷ microphone_code h.microphone ∷ []) k 0
   c1_field =
       field_back (2 ∷ 2 ∷ 1 ∷ 2 ∷ 1 ∷ []) (speed_code h.speed ∷ source10_code h.source10 ∷ source122_code h.source122 ∷ boards_code h.boards ∷ microphone_code h.microphone ∷ [])
-      (speed_codes.fits h.speed, (source10_codes.fits (FoundSource10.Named h.source10), (source122_codes.fits h.source122, (boards_codes.fits h.boards, (microphone_codes.fits h.microphone, tt)))))
+      (speed_codes.fits h.speed, (source10_codes.fits (Ok h.source10), (source122_codes.fits h.source122, (boards_codes.fits h.boards, (microphone_codes.fits h.microphone, tt)))))
 
   c3_field : (k : ℕ) → get_or (fields (2 ∷ 1 ∷ 1 ∷ 1 ∷ 2 ∷ 1 ∷ []) (c3_of h)) k 0 ≡ get_or (attenuator_code h.attenuator ∷ flag h.preamp ∷ flag h.dither ∷ flag h.random ∷ antenna_code h.antenna ∷ flag h.rxout ∷ []) k 0
   c3_field =
@@ -99,7 +98,7 @@ module _ (h : Host) where
     pub c4_field : (k : ℕ) → get_or (fields (2 ∷ 1 ∷ 3 ∷ 1 ∷ 1 ∷ []) (c4_of h)) k 0 ≡ get_or (relay_code h.relay ∷ flag h.duplex ∷ (h.receivers - 1) ∷ flag h.timestamp ∷ flag h.common ∷ []) k 0
     c4_field =
         field_back (2 ∷ 1 ∷ 3 ∷ 1 ∷ 1 ∷ []) (relay_code h.relay ∷ flag h.duplex ∷ (h.receivers - 1) ∷ flag h.timestamp ∷ flag h.common ∷ [])
-        (relay_codes.fits (FoundRelay.Named h.relay), (flag-fits h.duplex, (omega arith, (flag-fits h.timestamp, (flag-fits h.common, tt)))))
+        (relay_codes.fits (Ok h.relay), (flag-fits h.duplex, (omega arith, (flag-fits h.timestamp, (flag-fits h.common, tt)))))
 
 -- Word 0 from the bytes of a record: its fields, whatever record they are read into.
 settings-back : (c0 : ℕ) (g h : Host) → InRange h → settings (heard 0 (control_from c0 (said 0 h)) g) ≡ settings h
@@ -112,7 +111,7 @@ settings-back c0 g h range =
     let receivers : h.receivers - 1 + 1 ≡ h.receivers = omega arith in
     λ i. (
       (ap speed_of (b1 0) ∙ speed_codes.back h.speed) i,
-      ap (λ found. source10_or found g.source10) (ap source10_of (b1 1) ∙ source10_codes.back (FoundSource10.Named h.source10)) i,
+      ap (λ found. source10_or found g.source10) (ap source10_of (b1 1) ∙ source10_codes.back (Ok h.source10)) i,
       (ap source122_of (b1 2) ∙ source122_codes.back h.source122) i,
       (ap boards_of (b1 3) ∙ boards_codes.back h.boards) i,
       (ap microphone_of (b1 4) ∙ microphone_codes.back h.microphone) i,
@@ -124,7 +123,7 @@ settings-back c0 g h range =
       switched h.random (b3 3) i,
       (ap antenna_of (b3 4) ∙ antenna_codes.back h.antenna) i,
       switched h.rxout (b3 5) i,
-      ap (λ found. relay_or found g.relay) (ap relay_of (b4 0) ∙ relay_codes.back (FoundRelay.Named h.relay)) i,
+      ap (λ found. relay_or found g.relay) (ap relay_of (b4 0) ∙ relay_codes.back (Ok h.relay)) i,
       switched h.duplex (b4 1) i,
       (ap (λ n. n + 1) (b4 2) ∙ receivers) i,
       switched h.timestamp (b4 3) i,

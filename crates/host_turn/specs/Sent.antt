@@ -5,7 +5,7 @@ use Rattle.wire.specs.Answers.{Test, ◌gives◌, first, accepts}
 use Rattle.wire.specs.Fields.{flag, pack, eight_flags}
 use Rattle.wire.specs.Numbers.{bytes_of}
 use Rattle.wire.specs.Sync.{header_of, headed}
-use Rattle.wire.specs.declared.Answer.TheVariants.{Range}
+use Rattle.wire.specs.declared.Refusal.TheVariants.{Range}
 use Rattle.host_record.specs.Choices.{speed_code, source10_code, source122_code, boards_code, microphone_code, attenuator_code, antenna_code, relay_code, jack_code}
 use Rattle.host_words.specs.Words.{listed, tunes}
 use Rattle.host_record.specs.declared.record.Host.{Host}

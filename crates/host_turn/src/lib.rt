@@ -3,17 +3,15 @@
 // `put_head` takes what it is given, and writes nothing that cannot be sent.
 #![tactic(auto)]
 
-ghost use Rattle.std.specs.Prelude.{◌≡◌, ◌≤◌};
+ghost use Rattle.std.specs.Prelude.{◌≡◌, IfOk, IfErr};
 ghost use Rattle.wire.specs.Answers.{first};
-ghost use Rattle.wire.specs.Sync.{headed};
-ghost use Rattle.host_turn.specs.Sent.{InRange, c1_of, c2_of, c3_of, c4_of, settings_bytes, switches_bytes, front_c1, front_c2, front_bytes, c0_of, said, ranges, begun};
-ghost use Rattle.host_words.specs.Words.{last_word};
+ghost use Rattle.host_turn.specs.Sent.{InRange, c1_of, c2_of, c3_of, c4_of, settings_bytes, switches_bytes, front_c1, front_c2, front_bytes, said, ranges, begun};
 
 use host_record::record::{Front, Host};
 use wire::fields::{eight_flags, flag_of};
-use wire::numbers::bytes_of_u32;
+use wire::numbers::{Bytes4, bytes_of_u32};
 use wire::sync::put_header;
-use wire::{Answer, number};
+use wire::{Answer, Refusal};
 
 // The last of the listed words, after which the turn is 0 again.
 pub const LAST_WORD: u8 = 10;
@@ -22,27 +20,19 @@ pub const LAST_WORD: u8 = 10;
 pub fn out_of_range(host: Host) -> Answer
     ensures { result ≡ first (ranges host) }
 {
-    let outputs = host.outputs;
-    let receivers = host.receivers;
-    let front = host.front;
-    let gain = front.gain;
-    let top = front.c2top;
-    if 127 < outputs {
-        return Answer::Range;
+    match host {
+        Host {
+            outputs: 0..=127,
+            receivers: 1..=8,
+            front: Front {
+                gain: 0..=31,
+                c2top: 0..=7,
+                ..
+            },
+            ..
+        } => Ok(()),
+        _ => Err(Refusal::Range),
     }
-    if receivers < 1 {
-        return Answer::Range;
-    }
-    if 8 < receivers {
-        return Answer::Range;
-    }
-    if 31 < gain {
-        return Answer::Range;
-    }
-    if 7 < top {
-        return Answer::Range;
-    }
-    Answer::Accepted
 }
 
 // Sync and C0 to C4 of the word that is due, over the start of a frame. One with no room for them is left as it
@@ -53,45 +43,80 @@ pub fn put_head(frame: &mut [u8], turn: u8, host: Host)
     if LAST_WORD < turn {
         return;
     }
-    if number(out_of_range(host)) != 0 {
+    let Ok(fitting) = Fitting::of(host) else {
         return;
-    }
-    put_word(frame, turn, host);
-}
-
-pub(crate) fn put_word(frame: &mut [u8], turn: u8, host: Host)
-    requires { (turn ≤ last_word) × InRange host }
-    ensures { frame.new ≡ headed (c0_of turn host.mox) (said turn host) frame.old }
-{
+    };
     let c0 = flag_of(host.mox) + turn * 2;
-    put_header(frame, c0, word_of(turn, host));
+    put_header(frame, c0, fitting.word(turn));
 }
 
-// C1 to C4 of the word that is due.
-pub(crate) fn word_of(turn: u8, host: Host) -> [u8; 4]
-    requires { InRange host }
-    ensures { result ≡ said turn host }
-{
-    match turn {
-        0 => settings_of(host),
-        1 => bytes_of_u32(host.transmitter),
-        2..=8 => {
-            let at = (turn - 2) as usize;
-            bytes_of_u32(host.frequencies[at])
+// A record whose every value fits: `of` alone makes one, by the test.
+#[derive(Clone, Copy)]
+pub(crate) struct Fitting {
+    host: Host,
+    ghost in_range: { InRange host },
+}
+
+impl Fitting {
+    pub(crate) fn of(host: Host) -> Result<Fitting, Refusal>
+        ensures ok { IfOk result (λ fitting. fitting.host ≡ host) }
+        ensures err { IfErr result (λ refusal. first (ranges host) ≡ Err refusal) }
+    {
+        out_of_range(host)?;
+        Ok(Fitting { host })
+    }
+
+    // C1 to C4 of the word that is due.
+    pub(crate) fn word(self, turn: u8) -> Bytes4
+        ensures { result ≡ said turn self.host }
+    {
+        let host = self.host;
+        match turn {
+            0 => self.settings(),
+            1 => bytes_of_u32(host.transmitter),
+            2..=8 => bytes_of_u32(host.frequencies[(turn - 2) as usize]),
+            9 => switches_of(host),
+            _ => self.front(),
         }
-        9 => switches_of(host),
-        _ => front_bytes(host.front),
+    }
+
+    pub(crate) fn settings(self) -> Bytes4
+        ensures { result ≡ settings_bytes self.host }
+    {
+        [c1_of(self.host), self.c2(), c3_of(self.host), self.c4()]
+    }
+
+    pub(crate) fn c2(self) -> u8
+        ensures { result ≡ c2_of self.host }
+    {
+        flag_of(self.host.classe) + self.host.outputs * 2
+    }
+
+    pub(crate) fn c4(self) -> u8
+        ensures { result ≡ c4_of self.host }
+    {
+        let host = self.host;
+        u8::from(host.relay)
+            + flag_of(host.duplex) * 4
+            + (host.receivers - 1) * 8
+            + flag_of(host.timestamp) * 64
+            + flag_of(host.common) * 128
+    }
+
+    pub(crate) fn front(self) -> Bytes4
+        ensures { result ≡ front_bytes self.host.front }
+    {
+        let front = self.host.front;
+        [
+            front_c1(front),
+            front.gain + front.c2top * 32,
+            front.c3,
+            front.c4,
+        ]
     }
 }
 
-pub(crate) fn settings_of(host: Host) -> [u8; 4]
-    requires { InRange host }
-    ensures { result ≡ settings_bytes host }
-{
-    [c1_of(host), c2_of(host), c3_of(host), c4_of(host)]
-}
-
-pub(crate) fn switches_of(host: Host) -> [u8; 4]
+pub(crate) fn switches_of(host: Host) -> Bytes4
     ensures { result ≡ switches_bytes host }
 {
     let c = host.controls;
@@ -116,76 +141,35 @@ pub(crate) fn switches_of(host: Host) -> [u8; 4]
     ]
 }
 
-pub(crate) fn front_bytes(front: Front) -> [u8; 4]
-    requires { (front.gain ≤ 31) × (front.c2top ≤ 7) }
-    ensures { result ≡ front_bytes front }
-{
-    [front_c1(front), front_c2(front), front.c3, front.c4]
-}
-
 pub(crate) fn front_c1(front: Front) -> u8
     ensures { result ≡ front_c1 front }
 {
-    let jack = front.jack;
     flag_of(front.preamp1)
         + flag_of(front.preamp2) * 2
         + flag_of(front.preamp3) * 4
         + flag_of(front.preamp4) * 8
-        + jack.code() * 16
+        + u8::from(front.jack) * 16
         + flag_of(front.bias) * 32
         + flag_of(front.pttdisabled) * 64
-}
-
-pub(crate) fn front_c2(front: Front) -> u8
-    requires { (front.gain ≤ 31) × (front.c2top ≤ 7) }
-    ensures { result ≡ front_c2 front }
-{
-    front.gain + front.c2top * 32
 }
 
 pub(crate) fn c1_of(host: Host) -> u8
     ensures { result ≡ c1_of host }
 {
-    let speed = host.speed;
-    let source10 = host.source10;
-    let source122 = host.source122;
-    let boards = host.boards;
-    let microphone = host.microphone;
-    speed.code()
-        + source10.code() * 4
-        + source122.code() * 16
-        + boards.code() * 32
-        + microphone.code() * 128
-}
-
-pub(crate) fn c2_of(host: Host) -> u8
-    requires { host.outputs ≤ 127 }
-    ensures { result ≡ c2_of host }
-{
-    flag_of(host.classe) + host.outputs * 2
+    u8::from(host.speed)
+        + u8::from(host.source10) * 4
+        + u8::from(host.source122) * 16
+        + u8::from(host.boards) * 32
+        + u8::from(host.microphone) * 128
 }
 
 pub(crate) fn c3_of(host: Host) -> u8
     ensures { result ≡ c3_of host }
 {
-    let attenuator = host.attenuator;
-    let antenna = host.antenna;
-    attenuator.code()
+    u8::from(host.attenuator)
         + flag_of(host.preamp) * 4
         + flag_of(host.dither) * 8
         + flag_of(host.random) * 16
-        + antenna.code() * 32
+        + u8::from(host.antenna) * 32
         + flag_of(host.rxout) * 128
-}
-
-pub(crate) fn c4_of(host: Host) -> u8
-    requires { (1 ≤ host.receivers) × (host.receivers ≤ 8) }
-    ensures { result ≡ c4_of host }
-{
-    let relay = host.relay;
-    relay.code()
-        + flag_of(host.duplex) * 4
-        + (host.receivers - 1) * 8
-        + flag_of(host.timestamp) * 64
-        + flag_of(host.common) * 128
 }
