@@ -1,13 +1,14 @@
 -- Reading a payload slot by slot: how far the samples stand in their slices, and one slot more. Assumes nothing.
 use mathlib.Core.Path.{◌≡◌, refl, sym, ap, ◌∙◌}
 use mathlib.Core.List.{List}
-use Prim.Native.Nat.{ℕ, ◌+◌, ◌*◌, ◌<◌, ◌≤◌}
-use native.Mathlib.Nat.{le_trans, zero-mul, add-mul, one-mul, mul_comm, add_assoc}
+use Prim.Native.Nat.{ℕ, ◌+◌, ◌-◌, ◌*◌, ◌<◌, ◌≤◌}
+use native.Mathlib.Nat.{le_trans, zero-mul, add-mul, one-mul, mul_comm, add_assoc, add-sub_cancel_left}
 use native.Mathlib.Omega.{arith}
+use borrow.Rule.Slice.PartMut.{put_mid, mid_of, mid_len}
 use lib.IntN.{ℤ}
 use lib.ListN.{length, get_or, take, drop, set, length-set, length-take, length-drop}
 use lib.Seq.{get_or-take, get_or-drop}
-use Rattle.wire.specs.Lists.{over, over_at}
+use Rattle.wire.specs.Lists.{tab, over, over_at}
 use Rattle.wire.proofs.Lists.{over-more, length-over_at, over_at-same, over-then}
 use Rattle.layout.specs.Slots.{slot, slots, values}
 use Rattle.layout.proofs.Places.{slot_in_payload, values-inside, place_in_slot}
@@ -83,6 +84,21 @@ module _ (payload : List ℕ) (n : ℕ) (iq₀ mic₀ : List ℤ) (size count : 
 
       mic_in_slot : sample16 (take size (drop (t * size) payload)) (6 * n) ≡ mic_at n payload t
       mic_in_slot = part16 payload (t * size) size (6 * n) (rw so_far.size_is (omega arith)) ∙ rw so_far.size_is
+
+      -- the values of slot t, as a part of their slice, and the slice with others in their place
+      abbrev from : ℕ
+      from = t * (2 * n)
+
+      pub part_long : length (mid_of from (from + 2 * n - from) iq) ≡ 2 * n
+      part_long = mid_len from (from + 2 * n) iq slot_room ∙ add-sub_cancel_left from (2 * n)
+
+      pub values_put : (f : ℕ → ℤ) (new : List ℤ) → new ≡ tab (length (mid_of from (from + 2 * n - from) iq)) f → put_mid from (from + 2 * n - from) iq new ≡ over_at from (2 * n) f iq
+      values_put f new is = rw (is, part_long, add-sub_cancel_left from (2 * n))
+
+      pub mic_read : (width : ℕ) (x : ℤ) → x ≡ sample16 (take width (drop (t * size) payload)) (3 * length (mid_of from (from + 2 * n - from) iq)) → set mic t x ≡ set mic t (sample16 (take width (drop (t * size) payload)) (6 * n))
+      mic_read width x is =
+          let place : 3 * length (mid_of from (from + 2 * n - from) iq) ≡ 6 * n = omega (arith, part_long) in
+          rw (is, place)
 
       pub one_slot_more : (width : ℕ) (iq' mic' : List ℤ) → width ≡ size → iq' ≡ over_at (t * (2 * n)) (2 * n) (λ j. sample24 (take width (drop (t * size) payload)) (3 * j)) iq → mic' ≡ set mic t (sample16 (take width (drop (t * size) payload)) (6 * n)) → ReadTo payload n iq₀ mic₀ size count iq' mic' (t + 1)
       one_slot_more width iq' mic' width_is iq-wrote' mic-wrote' =

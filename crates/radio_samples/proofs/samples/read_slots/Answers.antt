@@ -1,7 +1,11 @@
 -- `samples::read_slots` meets its contract: each turn reads one slot more. Assumes nothing.
+use mathlib.Core.Path.{◌∙◌}
+use Prim.Native.Nat.{◌+◌, ◌-◌, ◌*◌}
 use native.Mathlib.Nat.{add-sub_cancel_left}
 use native.Mathlib.Omega.{arith}
-use Rattle.radio_samples.proofs.SlotBySlot.{in_payload, one_slot_more}
+use mir.Facts.{to_z-of_z}
+use mir.Syntax.{w16}
+use Rattle.radio_samples.proofs.SlotBySlot.{in_payload, values_put, mic_read, one_slot_more}
 use Rattle.radio_samples.proofs.samples.read_slots.Goals as goal
 
 pub overflow_mul-at : goal.overflow_mul-at
@@ -18,5 +22,10 @@ slice_bounds-read_slot-end c =
 
 pub loop-t-preserved : goal.loop-t-preserved
 loop-t-preserved c =
-    let wrote = c.read_slot.ensures in
-    one_slot_more _ _ _ _ _ _ _ _ _ c.loop-t.invariant c.loop-t-test.true _ _ _ (add-sub_cancel_left _ _) wrote.0 wrote.1
+    let inv = c.loop-t.invariant in
+    let below = c.loop-t-test.true in
+    let read = c.read_slot.ensures in
+    let at = c.loop-t.t * c.args.row.slot in
+    let width = at + c.args.row.slot - at in
+    let mic = to_z-of_z {w = w16} (record { sfits = c.read_slot.type_inv }) ∙ read.1 in
+    one_slot_more _ _ _ _ _ _ _ _ _ inv below _ _ _ (add-sub_cancel_left _ _) (values_put _ _ _ _ _ _ _ _ _ inv below _ _ read.0) (mic_read _ _ _ _ _ _ _ _ _ inv below width _ mic)
