@@ -30,7 +30,8 @@ pub fn write_samples(iq: &[i32], mic: &[i16], receivers: usize, frame: &mut [u8]
 {
     if let Some(row) = fitting(receivers, iq.len(), mic.len(), frame.len(), 512) {
         fill::write_slots(iq, mic, row, frame);
-        frame[row.padding_start()..].fill(0);
+        let start = row.padding_start();
+        frame[start..].fill(0);
     }
 }
 

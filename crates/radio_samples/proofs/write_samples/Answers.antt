@@ -29,6 +29,6 @@ slice_bounds-fill-start c =
 pub returns-in-Some : goal.returns-in-Some
 returns-in-Some c =
     let fitted = fits _ _ _ _ _ _ (sym c.fitting.ensures ∙ c.in-Some.is) in
-    payload_laid c.args.receivers _ _ _ _ _ _ (rw fitted.1 at c.padding_start.ensures) (room _ _ _ _ _ fitted.0).2 (rw fitted.1 at c.write_slots.ensures)
+    payload_laid c.args.receivers _ _ _ _ _ _ (rw fitted.1 at c.padding_start-start.ensures) (room _ _ _ _ _ fitted.0).2 (rw fitted.1 at c.write_slots.ensures)
     (c.fill.ensures.after (λ y same. same))
     ∙ sym (all_written _ _ _ _ fitted.0)
