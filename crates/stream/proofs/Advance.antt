@@ -2,9 +2,9 @@
 use mathlib.Core.Path.{◌≡◌}
 use mathlib.Core.Bool.{cond, ◌&&◌}
 use mathlib.Core.List.{List, [], ◌++◌}
-use Prim.Native.Nat.{ℕ, ◌+◌, ◌-◌, ◌<◌, ◌≤◌}
+use Prim.Native.Nat.{ℕ, ◌+◌, ◌-◌, ◌≤◌}
 use native.Mathlib.Omega.{arith}
-use borrow.Author.Tests.{le-leb, lt-leb}
+use borrow.Author.Tests.{le-leb}
 use lib.Dec.{leb}
 use lib.ListN.{length, drop}
 use Rattle.std.specs.Prelude.{Ok}
@@ -21,19 +21,8 @@ module _ (held piece output : List ℕ) where
   abbrev pub fitting : List ℕ
   fitting = cond (leb (length held) 514 && leb (length piece) 4096 && leb 4096 (length output)) (held ++ piece) []
 
-  pub held_too_long : 514 < length held → fitting ≡ []
-  held_too_long long = rw (lt-leb (length held) 514 long)
-
-  module _ (few : length held ≤ 514) where
-    pub piece_too_long : 4096 < length piece → fitting ≡ []
-    piece_too_long long = rw (le-leb (length held) 514 few, lt-leb (length piece) 4096 long)
-
-    module _ (short : length piece ≤ 4096) where
-      pub output_too_short : length output < 4096 → fitting ≡ []
-      output_too_short small = rw (le-leb (length held) 514 few, le-leb (length piece) 4096 short, lt-leb 4096 (length output) small)
-
-      pub all_fits : 4096 ≤ length output → fitting ≡ held ++ piece
-      all_fits room = rw (le-leb (length held) 514 few, le-leb (length piece) 4096 short, le-leb 4096 (length output) room)
+  pub all_fits : length held ≤ 514 → length piece ≤ 4096 → 4096 ≤ length output → fitting ≡ held ++ piece
+  all_fits few short room = rw (le-leb (length held) 514 few, le-leb (length piece) 4096 short, le-leb 4096 (length output) room)
 
 module _ {s output exit : List ℕ} {r : Scanned} (scans : Scans s output r exit) where
   rest : length s - r.place ≡ length (reading s).left

@@ -85,7 +85,7 @@ impl<'a> Joined<'a> {
 pub fn scan(held: &[u8], piece: &[u8], output: &mut [u8]) -> Scanned
     ensures { Scans (cond (leb (length held.now) 514 && leb (length piece.now) 4096 && leb 4096 (length output.old)) (held.now ++ piece.now) []) output.old result output.new }
 {
-    if 514 < held.len() || MOST < piece.len() || output.len() < MOST {
+    if !fits(held.len(), piece.len(), output.len()) {
         return Scanned {
             frames: 0,
             skipped: 0,
@@ -93,4 +93,10 @@ pub fn scan(held: &[u8], piece: &[u8], output: &mut [u8]) -> Scanned
         };
     }
     Joined { held, piece }.read(output)
+}
+
+pub(crate) fn fits(held: usize, piece: usize, output: usize) -> bool
+    ensures { result ≡ leb held 514 && leb piece 4096 && leb 4096 output }
+{
+    held <= 514 && piece <= MOST && MOST <= output
 }
