@@ -4,32 +4,32 @@
 // made of them is a fresh record.
 #![tactic(auto)]
 
-ghost use Rattle.std.specs.Prelude.{◌≡◌, ◌≤◌, length, take};
-ghost use Rattle.std.proofs.lemmas.List.Edits.{sets};
-ghost use Rattle.stream_cells.specs.Stream.{lent, counts_of, stream_in, put_in};
+ghost use Rattle.std.specs.Prelude.{◌≡◌, cond, take, IfSome, Err};
+ghost use Rattle.std.specs.Option.{is_some};
+ghost use Rattle.wire.specs.Answers.{Accepted};
+ghost use Rattle.wire.specs.declared.Refusal.TheVariants.{BadState};
+ghost use Rattle.stream_cells.specs.Stream.{lent, stream_in, put_in};
 
 use stream::Stream;
-use wire::copy::put;
+use wire::{Answer, Refusal};
 
-// Whether there are cells for a record.
-pub fn room(counts: &[u64], held: &[u8]) -> bool
-    ensures { result ≡ lent counts.now held.now }
+// The cells of a record, where there are as many as one takes: its four counts, and the bytes that may be held.
+pub fn room<'a>(counts: &'a [u64], held: &'a [u8]) -> Option<(&'a [u64; 4], &'a [u8; 514])>
+    ensures some { is_some result ≡ lent counts.now held.now }
+    ensures cells { IfSome result (λ p. (p.0.now ≡ take 4 counts.now) × (p.1.now ≡ take 514 held.now)) }
 {
-    if counts.len() < 4 {
-        return false;
-    }
-    514 <= held.len()
+    Some((counts.first_chunk()?, held.first_chunk()?))
 }
 
 // The record that the cells are; too few of them give a fresh one.
 pub fn stream_in(counts: &[u64], held: &[u8]) -> Stream
     ensures { result ≡ stream_in counts.now held.now }
 {
-    if !room(counts, held) {
+    let Some((counts, held)) = room(counts, held) else {
         return Stream::fresh();
-    }
+    };
     Stream {
-        held: held_of(held),
+        held: *held,
         count: counts[0] as usize,
         frames: counts[1],
         skipped: counts[2],
@@ -37,33 +37,24 @@ pub fn stream_in(counts: &[u64], held: &[u8]) -> Stream
     }
 }
 
-pub(crate) fn held_of(held: &[u8]) -> [u8; 514]
-    requires { 514 ≤ length held.now }
-    ensures { result ≡ take 514 held.now }
-{
-    let mut cells = [0u8; 514];
-    put(&mut cells, 0, &held[..514]);
-    cells
-}
-
 // Writes a record over the first of the cells, where there are enough of them.
-pub fn put_stream(stream: Stream, counts: &mut [u64], held: &mut [u8])
-    ensures { (counts.new, held.new) ≡ put_in stream counts.old held.old }
+pub fn put_stream(stream: Stream, counts: &mut [u64], held: &mut [u8]) -> Answer
+    ensures answer { result ≡ cond (lent counts.old held.old) Accepted (Err BadState) }
+    ensures cells { (counts.new, held.new) ≡ put_in stream counts.old held.old }
 {
-    if !room(counts, held) {
-        return;
-    }
+    let Some(counts) = counts.first_chunk_mut::<4>() else {
+        return Err(Refusal::BadState);
+    };
+    let Some(held) = held.first_chunk_mut::<514>() else {
+        return Err(Refusal::BadState);
+    };
+    *counts = [
+        stream.count as u64,
+        stream.frames,
+        stream.skipped,
+        stream.total,
+    ];
     let bytes = stream.held;
-    put_counts(stream, counts);
-    put(held, 0, &bytes);
-}
-
-pub(crate) fn put_counts(stream: Stream, counts: &mut [u64])
-    requires { 4 ≤ length counts.old }
-    ensures { counts.new ≡ sets counts.old 0 (counts_of stream) }
-{
-    counts[0] = stream.count as u64;
-    counts[1] = stream.frames;
-    counts[2] = stream.skipped;
-    counts[3] = stream.total;
+    *held = bytes;
+    Ok(())
 }
