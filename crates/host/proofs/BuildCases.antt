@@ -9,9 +9,9 @@ use lib.IntN.{ℤ}
 use lib.ListN.{length}
 use Rattle.wire.proofs.Cases.{by_test}
 use Rattle.wire.proofs.First.{accepted_none, none_accepted, only_accepted}
-use Rattle.wire.specs.Answers.{first, number_of}
-use Rattle.wire.specs.declared.Answer.{Answer}
-use Rattle.wire.specs.declared.Answer.TheVariants.{Accepted}
+use Rattle.std.specs.Prelude.{Err}
+use Rattle.wire.specs.Answers.{Answer, Accepted, first, number_of}
+use Rattle.wire.specs.declared.Refusal.{Refusal}
 use Rattle.host.specs.Build.{refusals, Outcome, refused, accepted, build_of}
 use Rattle.host_turn.proofs.Sendable.{none_in_range, in_range_none}
 use Rattle.host_turn.specs.Sent.{InRange}
@@ -47,6 +47,10 @@ module _ (b : Builder) (audio : List ℤ) (frame : List ℕ) where
   pub build-refused : (number_of (first (refusals b (length audio) (length frame))) ≡ 0 → ⊥) → build_of b audio frame ≡ refused (first (refusals b (length audio) (length frame))) b frame
   unfolding build_of
   build-refused other = rw (ne_eqb (number_of (first (refusals b (length audio) (length frame)))) 0 other)
+
+  pub refused_by : (refusal : Refusal) → first (refusals b (length audio) (length frame)) ≡ Err refusal → build_of b audio frame ≡ refused (Err refusal) b frame
+  refused_by refusal is =
+      build-refused (λ none. cc (only_accepted (first (refusals b (length audio) (length frame))) none)) ∙ ap (λ a. refused a b frame) is
 
   pub build-accepted : first (refusals b (length audio) (length frame)) ≡ Accepted → build_of b audio frame ≡ accepted b audio
   unfolding build_of

@@ -17,10 +17,10 @@ use Rattle.host.specs.Build.{frame_of}
 use Rattle.host_record.specs.Record.{Same}
 use Rattle.host_samples.specs.Samples.{payload_of, payload_from}
 use Rattle.host_turn.specs.Sent.{c0_of, said, head_of}
-use Rattle.host.specs.Read.{control_of}
+use Rattle.wire.specs.Control.{control_of}
 use Rattle.host_words.specs.Words.{address, heard}
 use Rattle.host.specs.declared.Builder.{Builder}
-use Rattle.host_words.specs.declared.Control.{Control}
+use Rattle.wire.specs.declared.control.Control.{Control}
 
 module _ (b : Builder) (audio : List ℤ) where
   pub control_built : control_of (frame_of b audio) ≡ control_from (c0_of b.turn b.host.mox) (said b.turn b.host)

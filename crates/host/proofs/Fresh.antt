@@ -11,11 +11,12 @@ use Rattle.host_words.proofs.Carries.{own_entry}
 use Rattle.wire.proofs.Everywhere.{below}
 use Rattle.host.proofs.ReadCases.{Good}
 use Rattle.host.proofs.Told.{Says, Each, each, among, wholly_told}
-use Rattle.host.specs.Read.{control_of, Call, reads}
+use Rattle.host.specs.Read.{Call, reads}
+use Rattle.wire.specs.Control.{control_of}
 use Rattle.host_record.specs.Record.{Same, Seven, fresh}
 use Rattle.host_words.specs.Words.{last_word, listed_words, address, heard, after}
 use Rattle.host_record.specs.declared.record.Host.{Host}
-use Rattle.host_words.specs.declared.Control.{Control}
+use Rattle.wire.specs.declared.control.Control.{Control}
 
 -- word w with MOX off and C1 to C4 all zero
 abbrev pub zero_word : ℕ → Control

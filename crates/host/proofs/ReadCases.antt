@@ -9,11 +9,12 @@ use lib.IntN.{ℤ}
 use lib.ListN.{length}
 use Rattle.wire.proofs.Cases.{by_test}
 use Rattle.wire.proofs.First.{None, accepted_none, none_accepted, only_accepted}
-use Rattle.wire.specs.Answers.{first, number_of}
+use Rattle.std.specs.Prelude.{Err}
+use Rattle.wire.specs.Answers.{Answer, Accepted, first, number_of}
+use Rattle.wire.specs.declared.Refusal.{Refusal}
 use Rattle.wire.specs.Sync.{sync_at}
-use Rattle.wire.specs.declared.Answer.{Answer}
-use Rattle.wire.specs.declared.Answer.TheVariants.{Accepted}
-use Rattle.host.specs.Read.{control_of, refusals, Outcome, refused, accepted, read_of}
+use Rattle.host.specs.Read.{refusals, Outcome, refused, accepted, read_of}
+use Rattle.wire.specs.Control.{control_of}
 use Rattle.host_words.specs.Words.{unassigned}
 use Rattle.host_record.specs.declared.record.Host.{Host}
 
@@ -46,6 +47,10 @@ module _ (f : List ℕ) (audio : List ℤ) (h : Host) where
   pub read-refused : (number_of (first (refusals f (length audio))) ≡ 0 → ⊥) → read_of f audio h ≡ refused (first (refusals f (length audio))) audio h
   unfolding read_of
   read-refused other = rw (ne_eqb (number_of (first (refusals f (length audio)))) 0 other)
+
+  pub refused_by : (refusal : Refusal) → first (refusals f (length audio)) ≡ Err refusal → read_of f audio h ≡ refused (Err refusal) audio h
+  refused_by refusal is =
+      read-refused (λ none. cc (only_accepted (first (refusals f (length audio))) none)) ∙ ap (λ a. refused a audio h) is
 
   pub read_accepted : first (refusals f (length audio)) ≡ Accepted → read_of f audio h ≡ accepted f audio h
   unfolding read_of

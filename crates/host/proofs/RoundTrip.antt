@@ -9,11 +9,11 @@ use lib.Dec.{eqb}
 use lib.IntN.{ℤ}
 use lib.ListN.{length, get_or, take, drop, length-drop, take-append-drop}
 use lib.Seq.{get_or-drop}
+use Rattle.wire.specs.Answers.{Accepted}
 use Rattle.wire.proofs.Cases.{either, both_true}
 use Rattle.wire.proofs.Lists.{tab-get_or, length_over}
 use Rattle.wire.specs.Numbers.{Bytes, Samples16}
 use Rattle.wire.specs.Sync.{sync_at}
-use Rattle.wire.specs.declared.Answer.TheVariants.{Accepted}
 use Rattle.host.proofs.BuildCases.{Ready, accepted_ready, ready_accepted, build_answer, build-accepted}
 use Rattle.host.proofs.BuiltFrame.{payload_built, address_built, built_says}
 use Rattle.host_words.proofs.Carries.{mox_follows, others_kept}
@@ -24,7 +24,8 @@ use Rattle.host_turn.proofs.BitTrip.{c0_again}
 use Rattle.host_turn.proofs.ByteTrip.{ByteControl, four_bytes, bytes_again}
 use Rattle.host_turn.proofs.WordTrip.{Held}
 use Rattle.host.specs.Build.{build_of, frame_of, moved}
-use Rattle.host.specs.Read.{control_of, read_of}
+use Rattle.host.specs.Read.{read_of}
+use Rattle.wire.specs.Control.{control_of}
 use Rattle.host_record.specs.Record.{Same, Seven}
 use Rattle.host_samples.specs.Samples.{payload_of, payload_from, number, numbers}
 use Rattle.host_turn.specs.Sent.{InRange, c0_of, said}
@@ -32,7 +33,7 @@ use Rattle.host_words.specs.Words.{last_word, listed, address, heard, after}
 use Rattle.host.specs.declared.Builder.{Builder}
 use Rattle.host_record.specs.declared.record.Front.{Front}
 use Rattle.host_record.specs.declared.record.Host.{Host}
-use Rattle.host_words.specs.declared.Control.{Control}
+use Rattle.wire.specs.declared.control.Control.{Control}
 use Rattle.host.specs.Read as reading
 
 -- what a reader has of a frame that b built from the numbers sent: g is the record that it lent, out its slice

@@ -7,9 +7,9 @@ use native.Mathlib.Omega.{arith}
 use lib.IntN.{ℤ, pos}
 use lib.ListN.{get_or}
 use lib.Seq.{get_or-drop}
+use Rattle.wire.specs.Answers.{Accepted}
 use Rattle.wire.proofs.Lists.{get_d_over}
 use Rattle.wire.specs.Numbers.{be, signed, Samples16}
-use Rattle.wire.specs.declared.Answer.TheVariants.{Accepted}
 use Rattle.host_record.specs.declared.record.Host.{Host}
 use Rattle.host_samples.proofs.SampleTrip.{number_back}
 use Rattle.host_samples.proofs.Slots.{standing-in}

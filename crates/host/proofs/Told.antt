@@ -12,7 +12,8 @@ use Rattle.wire.specs.Fields.{on}
 use Rattle.host_words.proofs.Carries.{mox_follows, still_seven, others_kept}
 use Rattle.host.proofs.ReadCases.{Good, good_accepted, read_accepted}
 use Rattle.host_words.proofs.Sameness.{same_same, wholly_same}
-use Rattle.host.specs.Read.{control_of, Call, reads, read_of}
+use Rattle.host.specs.Read.{Call, reads, read_of}
+use Rattle.wire.specs.Control.{control_of}
 use Rattle.host_record.specs.Record.{Same, Seven}
 use Rattle.host_words.specs.Words.{last_word, address, after}
 use Rattle.host_record.specs.declared.record.Host.{Host}

@@ -13,7 +13,8 @@ use Rattle.wire.proofs.First.{passing, never, no_place}
 use Rattle.wire.proofs.Named.{sync_told}
 use Rattle.host_record.specs.declared.record.Host.{Host}
 use Rattle.host_words.specs.Words.{is_set, unassigned}
-use Rattle.host.specs.Read.{control_of, refusals, read_of}
+use Rattle.host.specs.Read.{refusals, read_of}
+use Rattle.wire.specs.Control.{control_of}
 use Rattle.host.specs.WhichByte.{TellsWhich}
 use Rattle.host.proofs.ReadCases.{read_answer}
 

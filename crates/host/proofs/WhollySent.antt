@@ -5,7 +5,7 @@ use mathlib.Core.List.{List, [], ◌∷◌}
 use Prim.Native.Nat.{ℕ, zero, suc, ◌≤◌}
 use native.Mathlib.Omega.{arith}
 use lib.ListN.{length}
-use Rattle.wire.specs.declared.Answer.TheVariants.{Accepted}
+use Rattle.wire.specs.Answers.{Accepted}
 use Rattle.host.proofs.BuildCases.{Ready, accepted_ready, build_answer, build-accepted}
 use Rattle.host.proofs.BuiltFrame.{built_says}
 use Rattle.wire.proofs.Everywhere.{all_below, below}

@@ -1,14 +1,13 @@
 -- Document 01, "Words from the host", last paragraph, and "Nine refusals": what a build answers and leaves. Assumes nothing.
-use Rattle.std.specs.Prelude.{ℕ, ◌+◌, cond, not, List, ◌∷◌, ◌++◌, eqb, ltb, ℤ, length}
-use Rattle.wire.specs.Answers.{Test, ◌gives◌, first, accepts}
-use Rattle.wire.specs.declared.Answer.{Answer}
-use Rattle.wire.specs.declared.Answer.TheVariants.{Accepted, BadState, Length, ShortBuffer}
+use Rattle.std.specs.Prelude.{ℕ, ◌+◌, cond, not, List, ◌∷◌, ◌++◌, eqb, ltb, ℤ, length, Result, Ok, Err}
+use Rattle.wire.specs.Answers.{Answer, Accepted, Test, ◌gives◌, first, accepts}
+use Rattle.wire.specs.declared.Refusal.{Refusal}
+use Rattle.wire.specs.declared.Refusal.TheVariants.{BadState, Length, ShortBuffer}
 use Rattle.host_record.specs.Record.{fresh}
 use Rattle.host_samples.specs.Samples.{payload_from}
 use Rattle.host_turn.specs.Sent.{head_of, ranges}
 use Rattle.host_words.specs.Words.{last_word}
 use Rattle.host.specs.declared.Builder.{Builder}
-use Rattle.host.specs.declared.Built.{Built}
 
 -- "A fresh one is what all-zero words give (one receiver), its turn 0"
 abbrev pub fresh_builder : Builder
@@ -32,12 +31,14 @@ pub record Outcome : Type 0 where
   pub builder : Builder
   pub frame : List ℕ
 
-abbrev pub gave : Built → List ℕ → Outcome
-gave r frame = record { answer = r.answer; builder = r.builder; frame = frame }
-
 -- a refusal: the builder given, and the frame as it was
 abbrev pub refused : Answer → Builder → List ℕ → Outcome
 refused answer b frame = record { answer = answer; builder = b; frame = frame }
+
+-- what the call on a builder gave, with the frame as it returned
+abbrev pub gave : Builder → Result Builder Refusal → List ℕ → Outcome
+gave b (Ok next) frame = record { answer = Accepted; builder = next; frame = frame }
+gave b (Err refusal) frame = refused (Err refusal) b frame
 
 -- the frame whose word is the turn's
 abbrev pub frame_of : Builder → List ℤ → List ℕ

@@ -1,6 +1,6 @@
 -- Builds in a row, each from the builder that the one before left, and each frame read by the other side. Assumes nothing.
 use Rattle.std.specs.Prelude.{ℕ, ◌≤◌, ◌≡◌, List, [], ◌∷◌, ℤ, length}
-use Rattle.wire.specs.declared.Answer.TheVariants.{Accepted}
+use Rattle.wire.specs.Answers.{Accepted}
 use Rattle.host.specs.Build.{build_of}
 use Rattle.host.specs.Read.{read_of}
 use Rattle.host.specs.declared.Builder.{Builder}

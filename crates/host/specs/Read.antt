@@ -1,18 +1,14 @@
 -- Document 01, "Frame and slots", "Nine refusals" and "Words from the host": what reading a host frame answers and leaves. Assumes nothing.
-use Rattle.std.specs.Prelude.{ℕ, cond, not, List, [], ◌∷◌, eqb, ltb, ℤ, length, get_or}
-use Rattle.wire.specs.Answers.{Test, ◌gives◌, first, accepts}
+use Rattle.std.specs.Prelude.{ℕ, cond, not, List, [], ◌∷◌, eqb, ltb, ℤ, length, Result, Ok, Err}
+use Rattle.wire.specs.Answers.{Answer, Accepted, Test, ◌gives◌, first, accepts}
+use Rattle.wire.specs.Control.{control_of}
 use Rattle.wire.specs.Sync.{sync_at, no_sync}
-use Rattle.wire.specs.declared.Answer.{Answer}
-use Rattle.wire.specs.declared.Answer.TheVariants.{Accepted, Length, ShortBuffer}
+use Rattle.wire.specs.declared.Refusal.{Refusal}
+use Rattle.wire.specs.declared.Refusal.TheVariants.{Length, ShortBuffer}
 use Rattle.host_samples.specs.Samples.{payload_of, numbers}
 use Rattle.host_words.specs.Words.{address, unassigned, after}
 use Rattle.host.specs.declared.Reading.{Reading}
 use Rattle.host_record.specs.declared.record.Host.{Host}
-use Rattle.host_words.specs.declared.Control.{Control}
-
--- "7F 7F 7F, then C0 to C4"
-abbrev pub control_of : List ℕ → Control
-control_of f = record { c0 = get_or f 3 0; c1 = get_or f 4 0; c2 = get_or f 5 0; c3 = get_or f 6 0; c4 = get_or f 7 0 }
 
 -- in the order of the table; `room` is the length of the sample slice
 abbrev pub refusals : List ℕ → ℕ → List Test
@@ -29,12 +25,14 @@ pub record Outcome : Type 0 where
   pub host : Host
   pub audio : List ℤ
 
-abbrev pub gave : Reading → List ℤ → Outcome
-gave r audio = record { answer = r.answer; address = r.address; host = r.host; audio = audio }
-
 -- a refusal: the record given, address 0, nothing written
 abbrev pub refused : Answer → List ℤ → Host → Outcome
 refused answer audio h = record { answer = answer; address = 0; host = h; audio = audio }
+
+-- what the call on a record gave, with the slice as it returned
+abbrev pub gave : Host → Result Reading Refusal → List ℤ → Outcome
+gave h (Ok r) audio = record { answer = Accepted; address = r.address; host = r.host; audio = audio }
+gave h (Err refusal) audio = refused (Err refusal) audio h
 
 abbrev pub accepted : List ℕ → List ℤ → Host → Outcome
 accepted f audio h =

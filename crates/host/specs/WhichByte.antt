@@ -1,10 +1,9 @@
 -- What change request T-02 says of the place beside an answer to a host frame. Assumes nothing.
 use Rattle.std.specs.Prelude.{ℕ, ◌≡◌, List}
-use Rattle.wire.specs.Answers.{number_of, place_of, CauseNamed}
+use Rattle.wire.specs.Answers.{Answer, number_of, place_of, CauseNamed}
+use Rattle.wire.specs.Control.{control_of}
 use Rattle.wire.specs.Places.{FirstNot}
-use Rattle.wire.specs.declared.Answer.{Answer}
 use Rattle.host_words.specs.Words.{is_set}
-use Rattle.host.specs.Read.{control_of}
 
 -- "for NO_SYNC the first of the bytes 0 to 2 that isn't 7F", "for RESERVED whether it was the 10 MHz source, the transmit relay or word 9's
 -- C4 bit 7, in that order when two are wrong", and after them word 10's C1 bit 7; every other answer carries none

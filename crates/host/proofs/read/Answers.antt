@@ -1,10 +1,9 @@
 -- `host::read` meets its contract: refused, or the frame's numbers and its word. Assumes nothing.
-use mathlib.Core.Path.{◌≡◌, sym, ap, ◌∙◌}
+use mathlib.Core.Path.{◌≡◌, refl, sym, ap, ◌∙◌}
 use lib.ListN.{length, length-drop}
-use Rattle.wire.specs.Answers.{first, number_of}
-use Rattle.wire.specs.declared.Answer.TheVariants.{Accepted}
-use Rattle.wire.proofs.First.{only_accepted}
-use Rattle.host.proofs.ReadCases.{accepted_good, same_outcome, read-refused, read_accepted}
+use Rattle.std.proofs.lemmas.Result.{err_from_is_err_and}
+use Rattle.wire.specs.Answers.{Accepted, first}
+use Rattle.host.proofs.ReadCases.{accepted_good, same_outcome, refused_by, read_accepted}
 use Rattle.host_samples.proofs.Slots.{payload_part}
 use Rattle.host_samples.proofs.Lengths.{is_whole, all_read}
 use Rattle.host.specs.Read.{refusals}
@@ -12,20 +11,19 @@ use Rattle.host_samples.specs.Samples.{slots_read}
 use Rattle.host_words.specs.Words.{after, address}
 use Rattle.host.proofs.read.Goals as goal
 
-pub returns-then-number-ne0 : goal.returns-then-number-ne0
-returns-then-number-ne0 c =
-    let answered = c.refusal-answer.ensures in
-    rw answered (sym (read-refused _ _ _ (λ e. c.if-number-ne0.true (c.number.ensures ∙ ap number_of answered ∙ e))))
+pub returns-in_err-refusal : goal.returns-in_err-refusal
+returns-in_err-refusal c =
+    let p = err_from_is_err_and c.from_residual.result c.from_residual.ensures.1 in
+    rw (p.1, p.2) (sym (refused_by _ _ _ _ (sym c.refusal.ensures ∙ c.in_err-refusal.was)))
 
 pub returns : goal.returns
 returns c =
     let given = c.args in
-    let word = c.control_of-c.ensures in
-    let passed : first (refusals given.frame.now (length given.audio.now)) ≡ Accepted =
-    sym c.refusal-answer.ensures ∙ only_accepted _ (sym c.number.ensures ∙ c.if-number-ne0.false) in
+    let word = c.of-c.ensures in
+    let passed : first (refusals given.frame.now (length given.audio.now)) ≡ Accepted = sym c.refusal.ensures ∙ c.in_ok-refusal.was in
     let good = accepted_good given.frame.now (length given.audio.now) passed in
     same_outcome
-    (c.refusal-answer.ensures ∙ passed)
+    refl
     (ap address word)
     (c.next.ensures ∙ ap (λ w. after w given.host) word)
     (c.read_slots.ensures ∙ ap (λ p. slots_read p given.audio.now) (payload_part given.frame.now) ∙ all_read _ _ (is_whole _ _ (rw (length-drop 8 given.frame.now, good.long)) good.fits))
