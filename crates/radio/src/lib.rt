@@ -37,7 +37,7 @@ pub struct Reading {
 // Reads a frame for a number of receivers: I and Q values in slot order at the start of `iq`, one
 // microphone value a slot at the start of `mic`. Longer slices keep their remainder. Its refusals, in order:
 // BAD_COUNT, LENGTH, SHORT_BUFFER, NO_SYNC, PADDING, RESERVED, the last three with the first byte that is wrong or
-// the first level above 4,095.
+// the first level above 4,095. The slices go one by one and with any length, as C lends them.
 pub fn read(
     frame: &[u8],
     receivers: usize,
@@ -113,7 +113,7 @@ pub(crate) fn bad_padding(frame: &[u8], row: Row) -> Refusal
 
 // Writes the frame that carries a word of the record: I and Q values in slot order from the start of
 // `iq`, one microphone value a slot from the start of `mic`. Every byte of the frame is written. Its
-// refusals, in order: BAD_COUNT, LENGTH, SHORT_BUFFER, RANGE.
+// refusals, in order: BAD_COUNT, LENGTH, SHORT_BUFFER, RANGE. The word is a number: one that no word has is refused.
 pub fn write(
     status: Status,
     word: usize,

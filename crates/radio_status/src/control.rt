@@ -8,7 +8,8 @@ use wire::numbers::bytes_of_u16;
 use wire::sync::put_header;
 
 // Sync and C0 to C4 over the start of a frame. With a version above 127, a level above 4,095 or a word number
-// above 4, the frame is left as it is, and so is one with no room for them.
+// above 4, the frame is left as it is, and so is one with no room for them. The word that is due is a number, since
+// document 01 numbers the words, and a caller may give one that no word has.
 #[tactic(auto, unfolding(crate::specs::Control::header_over))]
 pub fn write_header(status: Status, word: u8, frame: &mut [u8])
     ensures { frame.new ≡ header_over status word frame.old }

@@ -51,7 +51,8 @@ pub struct SupplyLevels {
     pub ain6: u16,
 }
 
-// Word 4, but for the overflows: the software versions of boards 1 to 4, 0 to 127.
+// Word 4, but for the overflows: the software versions of boards 1 to 4, 0 to 127. No invariant says so, nor one of the
+// levels that they are up to 4,095: C lends any record, and a write refuses it.
 #[repr(C)]
 #[derive(Clone, Copy)]
 pub struct Versions {
@@ -76,7 +77,7 @@ pub struct Status {
 }
 
 impl Status {
-    // What all-zero words give: everything is off or 0, but the four inputs are active.
+    // What all-zero words give: everything is off or 0, but the four inputs are active, so that it is no derived default.
     pub fn fresh() -> Self
         ensures { result ≡ fresh_status }
     {
