@@ -11,9 +11,9 @@ use lib.Dec.{eqb, leb, ltb}
 use lib.IntN.{ℤ}
 use lib.ListN.{length}
 use lib.Seq.{take_all}
-use Rattle.wire.specs.Answers.{accepts, in_order}
-use Rattle.wire.specs.declared.Answer.{Answer}
-use Rattle.wire.specs.declared.Answer.TheVariants.{Accepted, BadCount, Length, ShortBuffer}
+use Rattle.std.specs.Prelude.{Err}
+use Rattle.wire.specs.Answers.{Accepted, Answer, accepts, in_order}
+use Rattle.wire.specs.declared.Refusal.TheVariants.{BadCount, Length, ShortBuffer}
 use Rattle.wire.proofs.Cases.{both_true, neither}
 use Rattle.wire.proofs.First.{accepted_none}
 use Rattle.wire.proofs.Lists.{first_parts}
@@ -65,22 +65,22 @@ frames_are_all input is =
     first_parts (count (length input)) 512 input (omega (arith, bytes)) ∙ take_all (count (length input) * 512) input (omega (arith, bytes))
 
 module _ (bytes n iq mic : ℕ) where
-  pub bad_count : counted n ≡ false → answer_of bytes n iq mic ≡ BadCount
+  pub bad_count : counted n ≡ false → answer_of bytes n iq mic ≡ Err BadCount
   unfolding answer_of
   bad_count other = rw other
 
   module _ (is_counted : counted n ≡ true) where
-    pub wrong_length : whole bytes ≡ false → answer_of bytes n iq mic ≡ Length
+    pub wrong_length : whole bytes ≡ false → answer_of bytes n iq mic ≡ Err Length
     unfolding answer_of
     wrong_length other = rw (is_counted, other)
 
     module _ (is_whole : whole bytes ≡ true) where
-      pub few_values : iq < count bytes * values n → answer_of bytes n iq mic ≡ ShortBuffer
+      pub few_values : iq < count bytes * values n → answer_of bytes n iq mic ≡ Err ShortBuffer
       unfolding answer_of
       few_values short = rw (is_counted, is_whole, lt-ltb iq (count bytes * values n) short)
 
       module _ (iq_room : count bytes * values n ≤ iq) where
-        pub few_slots : mic < count bytes * slots n → answer_of bytes n iq mic ≡ ShortBuffer
+        pub few_slots : mic < count bytes * slots n → answer_of bytes n iq mic ≡ Err ShortBuffer
         unfolding answer_of
         few_slots short = rw (is_counted, is_whole, le-ltb iq (count bytes * values n) iq_room, lt-ltb mic (count bytes * slots n) short)
 

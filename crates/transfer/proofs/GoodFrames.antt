@@ -7,9 +7,8 @@ use native.Mathlib.Omega.{arith}
 use lib.IntN.{ℤ}
 use lib.ListN.{length, drop, length-drop}
 use lib.Seq.{length-take-le}
-use Rattle.wire.specs.Answers.{accepts}
+use Rattle.wire.specs.Answers.{Accepted, accepts}
 use Rattle.wire.specs.Sync.{sync_at}
-use Rattle.wire.specs.declared.Answer.TheVariants.{Accepted}
 use Rattle.wire.proofs.Cases.{by_order}
 use Rattle.layout.specs.Slots.{slots, values}
 use Rattle.radio_status.specs.declared.record.Status.{Status}

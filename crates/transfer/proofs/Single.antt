@@ -6,8 +6,7 @@ use Prim.Native.Nat.{ℕ, ◌≤◌}
 use lib.IntN.{ℤ}
 use lib.ListN.{length, drop}
 use lib.Seq.{drop_at}
-use Rattle.wire.specs.Answers.{accepts}
-use Rattle.wire.specs.declared.Answer.{Answer}
+use Rattle.wire.specs.Answers.{Answer, accepts}
 use Rattle.wire.specs.Lists.{tab, over}
 use Rattle.wire.proofs.Cases.{by_test}
 use Rattle.wire.proofs.First.{accepts-only}

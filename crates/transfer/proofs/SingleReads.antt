@@ -8,9 +8,7 @@ use native.Mathlib.Numerals.{add-one}
 use native.Mathlib.Omega.{arith}
 use lib.IntN.{ℤ}
 use lib.ListN.{length, drop, drop_of_length-le, take-append-drop}
-use Rattle.wire.specs.Answers.{accepts}
-use Rattle.wire.specs.declared.Answer.{Answer}
-use Rattle.wire.specs.declared.Answer.TheVariants.{Accepted}
+use Rattle.wire.specs.Answers.{Accepted, Answer, accepts}
 use Rattle.wire.proofs.Cases.{by_test, by_order}
 use Rattle.wire.proofs.First.{accepts-only}
 use Rattle.wire.proofs.Lists.{length-tab}

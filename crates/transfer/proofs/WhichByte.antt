@@ -9,9 +9,8 @@ use native.Mathlib.Omega.{arith}
 use lib.Dec.{ltb}
 use lib.IntN.{ℤ}
 use lib.ListN.{length, drop}
-use Rattle.wire.specs.Answers.{◌gives◌, first, number_of, accepts}
-use Rattle.wire.specs.declared.Answer.{Answer}
-use Rattle.wire.specs.declared.Answer.TheVariants.{BadCount, Length, ShortBuffer}
+use Rattle.wire.specs.Answers.{Answer, ◌gives◌, first, number_of, accepts}
+use Rattle.wire.specs.declared.Refusal.TheVariants.{BadCount, Length, ShortBuffer}
 use Rattle.wire.proofs.Cases.{by_test, by_order}
 use Rattle.wire.proofs.First.{accepts-only, no_place}
 use Rattle.layout.specs.Slots.{counted, slots, values}

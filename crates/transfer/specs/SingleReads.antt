@@ -1,8 +1,6 @@
 -- What change request T-01 says of a transfer, "proved equal to that many single reads", in its own words. Assumes nothing.
 use Rattle.std.specs.Prelude.{ℕ, zero, suc, ◌*◌, ◌<◌, ◌≤◌, false, ◌≡◌, List, ◌++◌, ℤ, length, take, drop}
-use Rattle.wire.specs.Answers.{accepts}
-use Rattle.wire.specs.declared.Answer.{Answer}
-use Rattle.wire.specs.declared.Answer.TheVariants.{Accepted}
+use Rattle.wire.specs.Answers.{Answer, Accepted, accepts}
 use Rattle.layout.specs.Slots.{slots, values}
 use Rattle.radio_status.specs.declared.record.Status.{Status}
 use Rattle.radio.specs.Read as Read

@@ -1,9 +1,8 @@
 -- Change request T-01: 1 to 8 radio frames of one receiver count, one after another in one input, each by its single read. Assumes nothing.
 use Rattle.std.specs.Prelude.{ℕ, ◌+◌, ◌*◌, ◌/◌, ◌%◌, Bool, cond, not, ◌&&◌, ◌||◌, List, [], ◌∷◌, ◌++◌, eqb, leb, ltb, ℤ, length, take, drop}
-use Rattle.wire.specs.Answers.{Test, ◌gives◌, first, accepts}
+use Rattle.wire.specs.Answers.{Answer, Accepted, Test, ◌gives◌, first, accepts}
 use Rattle.wire.specs.Lists.{tab}
-use Rattle.wire.specs.declared.Answer.{Answer}
-use Rattle.wire.specs.declared.Answer.TheVariants.{Accepted, BadCount, Length, ShortBuffer}
+use Rattle.wire.specs.declared.Refusal.TheVariants.{BadCount, Length, ShortBuffer}
 use Rattle.layout.specs.Slots.{counted, slots, values}
 use Rattle.radio_status.specs.declared.record.Status.{Status}
 use Rattle.radio.specs.Read as Read

@@ -6,21 +6,18 @@
 // before it stay read.
 #![tactic(auto)]
 
-ghost use Rattle.std.specs.Prelude.{◌≡◌, cond, ◌+◌, ◌<◌, ◌≤◌, length};
-ghost use Rattle.wire.specs.Answers.{accepts};
-ghost use Rattle.wire.specs.declared.Answer.TheVariants.{Accepted};
-ghost use Rattle.layout.specs.Slots.{values as values_of, slots as slots_of};
-ghost use Rattle.transfer.specs.Steps.{Ready};
+ghost use Rattle.std.specs.Prelude.{◌≡◌, ◌<◌, length};
+ghost use Rattle.wire.specs.Answers.{Accepted};
+ghost use Rattle.transfer.specs.Steps.{Ready, row_after, reached, next};
 ghost use Rattle.transfer.specs.Transfer.{transfer_of, gave, none_read, one_more, one_by_one, answer_of, count, frame_at, frames_in};
 
-use layout::Layout;
-use radio::Reading;
+use layout::Row;
 use radio_status::record::Status;
-use wire::Answer;
+use wire::{Answer, Refusal};
 
 // What a transfer gives: the answer, how many frames were read, and the record after them. A refused frame and
 // those behind it are not read; its answer, place and all, is the transfer's, and the number of frames read is
-// its index, from 0.
+// its index, from 0. No Result of the others: they are given beside the refusal of a frame too.
 #[derive(Clone, Copy)]
 pub struct Transfer {
     pub answer: Answer,
@@ -32,6 +29,7 @@ pub struct Transfer {
 // frames before it, as a single read gives them: I and Q in slot order in `iq`, one microphone value a slot in
 // `mic`. Longer slices keep their remainder. Its refusals, in order: BAD_COUNT, LENGTH, SHORT_BUFFER, all
 // before any frame is read; then those of the first frame that is refused, NO_SYNC, PADDING and RESERVED.
+#[tactic(auto, using(crate::proofs::WithRow::row_ready, crate::proofs::WithRow::read_with_row, crate::proofs::WithRow::refused_whole))]
 pub fn read(
     input: &[u8],
     receivers: usize,
@@ -41,122 +39,98 @@ pub fn read(
 ) -> Transfer
     ensures { gave result iq.new mic.new ≡ transfer_of input.now receivers iq.old mic.old status }
 {
-    let answer = refusal(input.len(), receivers, iq.len(), mic.len());
-    if wire::number(answer) != 0 {
-        return none_read(answer, status);
+    match row_of_whole(input.len(), receivers, iq.len(), mic.len()) {
+        Ok(row) => read_frames(input, row, iq, mic, status),
+        Err(refusal) => ended(Err(refusal), 0, status),
     }
-    read_frames(input, receivers, iq, mic, status)
 }
 
-fn none_read(answer: Answer, status: Status) -> Transfer
-    ensures { result ≡ record { answer = answer; frames = 0; status = status } }
+fn ended(answer: Answer, frames: usize, status: Status) -> Transfer
+    ensures { result ≡ record { answer = answer; frames = frames; status = status } }
 {
     Transfer {
         answer,
-        frames: 0,
+        frames,
         status,
     }
 }
 
-// The first test of the whole that holds.
-#[tactic(auto, using(layout::proofs::Lookup::found, crate::proofs::Cases::left_over, crate::proofs::Cases::no_frame_lem, crate::proofs::Cases::many_frames_lem, crate::proofs::Cases::wrong_length, crate::proofs::WithRow::row_values, crate::proofs::WithRow::all_values, crate::proofs::WithRow::iq_short, crate::proofs::WithRow::mic_short, crate::proofs::WithRow::both_long))]
-pub(crate) fn refusal(bytes: usize, receivers: usize, iq: usize, mic: usize) -> Answer
-    ensures { result ≡ answer_of bytes receivers iq mic }
+// The row of every frame, or the first test of the whole that holds.
+#[tactic(auto, using(crate::proofs::WithRow::no_row, crate::proofs::WithRow::left_over, crate::proofs::WithRow::no_frame, crate::proofs::WithRow::many_frames, crate::proofs::WithRow::all_values, crate::proofs::WithRow::iq_short, crate::proofs::WithRow::mic_short, crate::proofs::WithRow::both_long))]
+pub(crate) fn row_of_whole(
+    bytes: usize,
+    receivers: usize,
+    iq: usize,
+    mic: usize,
+) -> Result<Row, Refusal>
+    ensures { result ≡ row_after (answer_of bytes receivers iq mic) receivers }
 {
-    let Layout::Of(row) = layout::row_of(receivers) else {
-        return Answer::BadCount;
-    };
-    let slots = row.slots;
+    let row = layout::row_of(receivers)?;
     let frames = bytes / 512;
     if bytes % 512 != 0 {
-        return Answer::Length;
+        return Err(Refusal::Length);
     }
     if frames < 1 {
-        return Answer::Length;
+        return Err(Refusal::Length);
     }
     if 8 < frames {
-        return Answer::Length;
+        return Err(Refusal::Length);
     }
-    if iq < frames * (2 * receivers * slots) {
-        return Answer::ShortBuffer;
+    if iq < frames * row.values() {
+        return Err(Refusal::ShortBuffer);
     }
-    if mic < frames * slots {
-        return Answer::ShortBuffer;
+    if mic < frames * row.slots {
+        return Err(Refusal::ShortBuffer);
     }
-    Answer::Accepted
+    Ok(row)
 }
 
-// The frames in order, up to the first that is refused. The count has its row: that was tested.
+// The frames in order, up to the first that is refused.
+#[tactic(auto, using(crate::proofs::InOrder::all_read))]
 pub(crate) fn read_frames(
     input: &[u8],
-    receivers: usize,
+    row: Row,
     iq: &mut [i32],
     mic: &mut [i16],
     status: Status,
 ) -> Transfer
-    requires { Ready (count (length input.now)) receivers (length input.now) (length iq.old) (length mic.old) }
-    ensures { gave result iq.new mic.new ≡ one_by_one receivers (frames_in input.now) (none_read Accepted iq.old mic.old status) }
+    requires { Ready (count (length input.now)) row.receivers (length input.now) (length iq.old) (length mic.old) }
+    ensures { gave result iq.new mic.new ≡ one_by_one row.receivers (frames_in input.now) (none_read Accepted iq.old mic.old status) }
 {
-    let Layout::Of(row) = layout::row_of(receivers) else {
-        return none_read(Answer::BadCount, status);
-    };
-    let slots = row.slots;
-    let values = 2 * receivers * slots;
     let frames = input.len() / 512;
-    let mut done = none_read(Answer::Accepted, status);
-    while done.frames < frames {
-        done = one_more(done, input, receivers, values, slots, iq, mic);
-        let answer = done.answer;
-        if wire::number(answer) != 0 {
-            return done;
+    let mut last = status;
+    for frame in 0..frames {
+        match one_more(input, frame, row, iq, mic, last) {
+            Ok(after) => last = after,
+            Err(refusal) => return ended(Err(refusal), frame, last),
         }
     }
-    done
+    ended(Ok(()), frames, last)
 }
 
-// The single read of the next frame, on the record that those before it left and on the rest of the slices.
-// `values` and `slots` are those of one frame.
+// The single read of the frame of an index, on the record that those before it left and on the rest of the slices. It
+// gives the record after it.
 pub(crate) fn one_more(
-    done: Transfer,
     input: &[u8],
-    receivers: usize,
-    values: usize,
-    slots: usize,
+    frame: usize,
+    row: Row,
     iq: &mut [i32],
     mic: &mut [i16],
-) -> Transfer
-    requires one_frame { (values ≡ values_of receivers) × (slots ≡ slots_of receivers) × (done.frames < count (length input.now)) }
-    requires ready { Ready (count (length input.now)) receivers (length input.now) (length iq.old) (length mic.old) }
-    ensures { gave result iq.new mic.new ≡ one_more receivers (gave done iq.old mic.old) (frame_at input.now done.frames) }
+    status: Status,
+) -> Result<Status, Refusal>
+    requires one_frame { frame < count (length input.now) }
+    requires ready { Ready (count (length input.now)) row.receivers (length input.now) (length iq.old) (length mic.old) }
+    ensures { next frame status result iq.new mic.new ≡ one_more row.receivers (reached frame status iq.old mic.old) (frame_at input.now frame) }
 {
-    let frames = done.frames;
-    let start = frames * 512;
-    let iq_start = frames * values;
-    let mic_start = frames * slots;
-    let one = radio::read(
+    let start = frame * 512;
+    let iq_start = frame * row.values();
+    let mic_start = frame * row.slots;
+    let reading = radio::read(
         &input[start..start + 512],
-        receivers,
+        row.receivers,
         &mut iq[iq_start..],
         &mut mic[mic_start..],
-        done.status,
-    );
-    after(one, frames)
-}
-
-// What is told of the frames up to this one: a refused frame does not count as read.
-fn after(one: Reading, frames: usize) -> Transfer
-    requires { frames ≤ 8 }
-    ensures { result ≡ record { answer = one.answer; frames = cond (accepts one.answer) (frames + 1) frames; status = one.status } }
-{
-    let answer = one.answer;
-    let status = one.status;
-    let mut read = frames;
-    if wire::number(answer) == 0 {
-        read += 1;
-    }
-    Transfer {
-        answer,
-        frames: read,
         status,
-    }
+    )?;
+    Ok(reading.status)
 }
