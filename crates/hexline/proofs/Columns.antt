@@ -1,20 +1,29 @@
 -- The text of a row, cut where the code cuts it, and how long its parts are. Assumes nothing.
-use mathlib.Core.Path.{◌≡◌, sym, ap, ◌∙◌}
+use mathlib.Core.Path.{◌≡◌, refl, sym, ap, ◌∙◌}
 use mathlib.Core.Bool.{Bool, true, false}
 use mathlib.Core.List.{List, [], ◌∷◌, ◌++◌, append_assoc}
 use Prim.Native.Nat.{ℕ, ◌+◌, ◌<◌, ◌≤◌, ◌^◌}
 use native.Mathlib.Omega.{arith}
 use borrow.Author.Tests.{eq-eqb, ne_eqb, lt-ltb, le-ltb}
 use lib.ListN.{length, length-append}
-use Rattle.wire.specs.Answers.{number_of}
+use mir.Val.{bool_byte}
+use Rattle.std.specs.Prelude.{Result, Ok, Err}
+use Rattle.wire.specs.declared.Refusal.{Refusal}
+use Rattle.wire.specs.Answers.{Answer, Accepted, number_of}
+use Rattle.wire.proofs.First.{few_numbers, only_accepted}
 use Rattle.wire.specs.Fields.{flag}
-use Rattle.wire.specs.declared.Answer.{Answer}
 use Rattle.hexline.specs.Lines.{newline}
 use Rattle.text.specs.Numbers.{decimal_of}
 use Rattle.text.specs.Put.{gave, put_of}
 use Rattle.text.proofs.Numbers.{one_digit_lem, decimal-length}
-use Rattle.text.proofs.Puts.{and_then, put_start}
-use Rattle.hexline.specs.Printed.{space, hyphen, spaced, ended, accepted_columns, refused_columns, text_of, row_of}
+use Rattle.text.proofs.Puts.{put_start}
+use Rattle.hexline.specs.Printed.{space, hyphen, spaced, ended, accepted_columns, refused_columns, text_of, row_of, row_for}
+use Rattle.hexline.specs.declared.print.Columns.{Columns}
+
+-- a flag as Rust has it
+pub bit_flag : (b : Bool) → bool_byte b ≡ flag b
+bit_flag true = refl
+bit_flag false = refl
 
 flag-digit : (b : Bool) → decimal_of (flag b) ≡ (0x30 + flag b) ∷ []
 flag-digit true = one_digit_lem 1 (omega arith)
@@ -69,35 +78,43 @@ module _ (number : ℕ) (answer : Answer) (address : ℕ) (dot dash ptt : Bool) 
   unfolding text_of
   refused_text_lem e = rw (ne_eqb (number_of answer) 0 e) (after_two (decimal_of number) (decimal_of (number_of answer)) hyphen (hyphen ∷ hyphen ∷ hyphen ∷ []))
 
--- The first two columns stand at the start of a slice that has room for a row.
-pub record Begun (number : ℕ) (answer : Answer) (out : List ℕ) (second : ℕ) (begun : List ℕ) : Type 0 where
-  pub room : 64 ≤ length out
-  pub fits : number < 2 ^ 64
-  pub small : number_of answer < 256
-  pub put : gave second begun ≡ put_of out 0 (first_two number answer)
+first_two_length : (number : ℕ) (answer : Answer) → number < 2 ^ 64 → length (first_two number answer) ≤ 24
+first_two_length number answer fits =
+    rw (length-append (decimal_of number) (space ∷ decimal_of (number_of answer)))
+    (omega (arith, number-length number fits, byte-length (number_of answer) (omega (arith, few_numbers answer))))
 
-module _ {number : ℕ} {answer : Answer} {out : List ℕ} {second : ℕ} {begun : List ℕ} (b : Begun number answer out second begun) where
-  begun_length : length (first_two number answer) ≤ 24
-  begun_length =
-      rw (length-append (decimal_of number) (space ∷ decimal_of (number_of answer)))
-      (omega (arith, number-length number b.fits, byte-length (number_of answer) b.small))
+-- the first two columns, and the rest, at the start of a slice that has room for a row
+row_whole : (number : ℕ) (answer : Answer) (address : ℕ) (dot dash ptt : Bool) (out rest : List ℕ) {r : ℕ} {after : List ℕ} → 64 ≤ length out → number < 2 ^ 64 → length rest ≤ 11
+    → text_of number answer address dot dash ptt ≡ first_two number answer ++ rest → gave r after ≡ put_of out 0 (first_two number answer ++ rest)
+    → gave r after ≡ row_of number answer address dot dash ptt out
+unfolding row_of
+row_whole number answer address dot dash ptt out rest room fits short e put =
+    let inside : length (first_two number answer ++ rest) ≤ length out =
+    rw (length-append (first_two number answer) rest) (omega (arith, first_two_length number answer fits)) in
+    rw (le-ltb (length out) 64 room, e) (put ∙ put_start out (first_two number answer ++ rest) inside)
 
-  module _ (address : ℕ) (dot dash ptt : Bool) where
-    row_ends : {third : ℕ} {after : List ℕ} (rest : List ℕ) → length rest ≤ 11 → text_of number answer address dot dash ptt ≡ first_two number answer ++ rest
-        → gave third after ≡ put_of begun second rest → gave third after ≡ row_of number answer address dot dash ptt out
-    unfolding row_of
-    row_ends rest short e put =
-        let inside : length (first_two number answer ++ rest) ≤ length out = rw (length-append (first_two number answer) rest) (omega (arith, begun_length)) in
-        rw (le-ltb (length out) 64 b.room, e) (and_then _ _ _ _ b.put put ∙ put_start out (first_two number answer ++ rest) inside)
+module _ (number : ℕ) (out : List ℕ) {r : ℕ} {after : List ℕ} (room : 64 ≤ length out) (fits : number < 2 ^ 64) where
+  pub row_read : (c : Columns) → c.address < 256 → gave r after ≡ put_of out 0 (first_two number Accepted ++ accepted_text c.address c.dot c.dash c.ptt)
+      → gave r after ≡ row_for number (Ok c) out
+  row_read c byte =
+      row_whole number Accepted c.address c.dot c.dash c.ptt out (accepted_text c.address c.dot c.dash c.ptt) room fits (accepted_short c.address c.dot c.dash c.ptt byte)
+      (accepted_text_lem number Accepted c.address c.dot c.dash c.ptt refl)
 
-    pub row_accepted : {third : ℕ} {after : List ℕ} → address < 256 → number_of answer ≡ 0 → gave third after ≡ put_of begun second (accepted_text address dot dash ptt)
-        → gave third after ≡ row_of number answer address dot dash ptt out
-    row_accepted byte e = row_ends (accepted_text address dot dash ptt) (accepted_short address dot dash ptt byte) (accepted_text_lem number answer address dot dash ptt e)
-
-    pub row_refused : {third : ℕ} {after : List ℕ} → (number_of answer ≡ 0 → ⊥) → gave third after ≡ put_of begun second refused_text
-        → gave third after ≡ row_of number answer address dot dash ptt out
-    row_refused e = row_ends refused_text (omega arith) (refused_text_lem number answer address dot dash ptt e)
+  pub row_refused : (e : Refusal) → gave r after ≡ put_of out 0 (first_two number (Err e) ++ refused_text) → gave r after ≡ row_for number (Err e) out
+  row_refused e =
+      row_whole number (Err e) 0 false false false out refused_text room fits (omega arith)
+      (refused_text_lem number (Err e) 0 false false false (λ zero. let none = only_accepted (Err e) zero in cc))
 
 pub row_short : (number : ℕ) (answer : Answer) (address : ℕ) (dot dash ptt : Bool) (out : List ℕ) → length out < 64 → gave 0 out ≡ row_of number answer address dot dash ptt out
 unfolding row_of
 row_short number answer address dot dash ptt out short = rw (lt-ltb (length out) 64 short)
+
+pub for_short : (number : ℕ) (read : Result Columns Refusal) (out : List ℕ) → length out < 64 → gave 0 out ≡ row_for number read out
+for_short number (Ok c) out short = row_short number _ _ _ _ _ out short
+for_short number (Err e) out short = row_short number _ _ _ _ _ out short
+
+-- of a refusal its number alone
+pub refused_alone : (number : ℕ) (e : Refusal) (address : ℕ) (dot dash ptt : Bool) → text_of number (Err e) 0 false false false ≡ text_of number (Err e) address dot dash ptt
+refused_alone number e address dot dash ptt =
+    let other : number_of (Err e) ≡ 0 → ⊥ = λ zero. let none = only_accepted (Err e) zero in cc in
+    refused_text_lem number (Err e) 0 false false false other ∙ sym (refused_text_lem number (Err e) address dot dash ptt other)

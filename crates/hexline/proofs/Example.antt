@@ -5,7 +5,9 @@ use mathlib.Core.Bool.{true, false}
 use mathlib.Core.List.{List, [], ◌∷◌, ◌++◌, map}
 use Prim.Native.Nat.{ℕ}
 use lib.ListN.{replicate}
-use Rattle.wire.specs.declared.Answer.TheVariants.{Accepted, Length, NoSync}
+use Rattle.std.specs.Prelude.{Err}
+use Rattle.wire.specs.Answers.{Accepted}
+use Rattle.wire.specs.declared.Refusal.TheVariants.{Length, NoSync}
 use Rattle.hexline.proofs.Split.{unbroken, line_first}
 use Rattle.hexline.specs.Lines.{Content, a_frame, no_frame, lines, content_of, newline}
 use Rattle.text.specs.Numbers.{groups_in, decimal_of}
@@ -49,7 +51,7 @@ unfolding line1 line2 frame_from
 three-lines = ap (map content_of) split
 
 -- "1 0 1 1 0 0", "2 6 - - - -", "3 3 - - - -": of a refusal its number alone
-pub three_rows : (byte : ℕ) → text_of 1 Accepted 1 true false false ∷ text_of 2 (NoSync byte) 0 false false false ∷ text_of 3 Length 0 false false false ∷ []
+pub three_rows : (byte : ℕ) → text_of 1 Accepted 1 true false false ∷ text_of 2 (Err (NoSync byte)) 0 false false false ∷ text_of 3 (Err Length) 0 false false false ∷ []
     ≡ (0x31 ∷ 0x20 ∷ 0x30 ∷ 0x20 ∷ 0x31 ∷ 0x20 ∷ 0x31 ∷ 0x20 ∷ 0x30 ∷ 0x20 ∷ 0x30 ∷ 0x0a ∷ [])
     ∷ (0x32 ∷ 0x20 ∷ 0x36 ∷ 0x20 ∷ 0x2d ∷ 0x20 ∷ 0x2d ∷ 0x20 ∷ 0x2d ∷ 0x20 ∷ 0x2d ∷ 0x0a ∷ [])
     ∷ (0x33 ∷ 0x20 ∷ 0x33 ∷ 0x20 ∷ 0x2d ∷ 0x20 ∷ 0x2d ∷ 0x20 ∷ 0x2d ∷ 0x20 ∷ 0x2d ∷ 0x0a ∷ [])

@@ -3,11 +3,14 @@ use mathlib.Core.Path.{◌≡◌}
 use mathlib.Core.Bool.{Bool}
 use mathlib.Core.List.{List}
 use Prim.Native.Nat.{ℕ}
-use Rattle.wire.specs.declared.Answer.{Answer}
+use Rattle.std.specs.Prelude.{Result}
+use Rattle.wire.specs.Answers.{Answer}
+use Rattle.wire.specs.declared.Refusal.{Refusal}
 use Rattle.text.specs.Put.{Written}
-use Rattle.hexline.specs.Printed.{row_of}
+use Rattle.hexline.specs.Printed.{row_of, row_for}
 use Rattle.hexline.specs.Reader.{fresh_reader, take_of, end_of}
 use Rattle.hexline.specs.Tally.{tally_of}
+use Rattle.hexline.specs.declared.print.Columns.{Columns}
 use Rattle.hexline.specs.declared.Reader.{Reader}
 use Rattle.hexline.specs.declared.Taken.{Taken}
 use Rattle.wire.proofs.Settled.{settled}
@@ -25,6 +28,9 @@ end_settled given r s = settled
 pub row_settled : (number : ℕ) (answer : Answer) (address : ℕ) (dot dash ptt : Bool) (out : List ℕ) (r s : Written)
     → r ≡ row_of number answer address dot dash ptt out → s ≡ row_of number answer address dot dash ptt out → r ≡ s
 row_settled number answer address dot dash ptt out r s = settled
+
+pub row_for_settled : (number : ℕ) (read : Result Columns Refusal) (out : List ℕ) (r s : Written) → r ≡ row_for number read out → s ≡ row_for number read out → r ≡ s
+row_for_settled number read out r s = settled
 
 pub tally_settled : (frames skipped held : ℕ) (out : List ℕ) (r s : Written) → r ≡ tally_of frames skipped held out → s ≡ tally_of frames skipped held out → r ≡ s
 tally_settled frames skipped held out r s = settled

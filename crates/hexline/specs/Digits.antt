@@ -1,5 +1,5 @@
 -- Document 01, "The listing program": lower-case hexadecimal digits, and the bytes that they stand for. Assumes nothing.
-use Rattle.std.specs.Prelude.{ℕ, ◌+◌, ◌-◌, ◌*◌, Bool, true, cond, ◌&&◌, List, [], ◌∷◌, leb, ltb}
+use Rattle.std.specs.Prelude.{ℕ, ◌+◌, ◌-◌, ◌*◌, Bool, true, cond, ◌&&◌, Option, None, Some, List, [], ◌∷◌, leb, ltb}
 
 -- b is one of the bytes from `low` to `high`
 abbrev pub among : ℕ → ℕ → ℕ → Bool
@@ -11,6 +11,10 @@ value_of b = cond (among 0x30 0x39 b) (b - 0x30) (cond (among 0x61 0x66 b) (b - 
 
 abbrev pub is_digit : ℕ → Bool
 is_digit b = ltb (value_of b) 16
+
+-- a digit's value, of a byte that is one
+abbrev pub digit_in : ℕ → Option ℕ
+digit_in b = cond (is_digit b) (Some (value_of b)) None
 
 abbrev pub all_digits : List ℕ → Bool
 all_digits [] = true

@@ -1,11 +1,12 @@
 -- Document 01, "The listing program": the row that is printed for a line. Assumes nothing.
-use Rattle.std.specs.Prelude.{ℕ, Bool, cond, List, [], ◌∷◌, ◌++◌, eqb, ltb, length}
+use Rattle.std.specs.Prelude.{ℕ, Bool, false, cond, Result, Ok, Err, List, [], ◌∷◌, ◌++◌, eqb, ltb, length}
 use Rattle.hexline.specs.Lines.{newline}
-use Rattle.wire.specs.Answers.{number_of}
+use Rattle.wire.specs.Answers.{Answer, Accepted, number_of}
 use Rattle.wire.specs.Fields.{flag}
-use Rattle.wire.specs.declared.Answer.{Answer}
+use Rattle.wire.specs.declared.Refusal.{Refusal}
 use Rattle.text.specs.Numbers.{decimal_of}
 use Rattle.text.specs.Put.{Written, gave, written}
+use Rattle.hexline.specs.declared.print.Columns.{Columns}
 
 abbrev pub space : ℕ
 space = 0x20
@@ -38,3 +39,8 @@ text_of number answer address dot dash ptt = ended (spaced (columns number answe
 
 unfoldable pub row_of : ℕ → Answer → ℕ → Bool → Bool → Bool → List ℕ → Written
 row_of number answer address dot dash ptt out = cond (ltb (length out) 64) (gave 0 out) (written (text_of number answer address dot dash ptt) out)
+
+-- the row for what the reading of a line gave: what is shown of it, or its refusal
+abbrev pub row_for : ℕ → Result Columns Refusal → List ℕ → Written
+row_for number (Ok c) out = row_of number Accepted c.address c.dot c.dash c.ptt out
+row_for number (Err e) out = row_of number (Err e) 0 false false false out

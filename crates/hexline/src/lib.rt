@@ -11,7 +11,7 @@ mod digit;
 pub mod print;
 
 ghost use Rattle.std.specs.Prelude.{◌≡◌};
-ghost use Rattle.hexline.specs.Reader.{fresh_reader, take_of, end_of, line_end, one_more};
+ghost use Rattle.hexline.specs.Reader.{fresh_reader, take_of, byte_on, end_of, line_end};
 
 const NEWLINE: u8 = 0x0a;
 
@@ -65,43 +65,16 @@ impl Reader {
     pub fn take(self, chunk: &[u8]) -> Taken
         ensures { result ≡ take_of self chunk.now }
     {
-        let mut frame = self.frame;
-        let mut count = self.count;
-        let number = self.number;
-        let mut at = 0;
-        while at < chunk.len() {
-            let b = chunk[at];
-            at += 1;
-            if b == NEWLINE {
-                return line_end(
-                    Reader {
-                        frame,
-                        count,
-                        number,
-                    },
-                    at,
-                );
+        let mut reader = self;
+        for (at, b) in chunk.iter().enumerate() {
+            if *b == NEWLINE {
+                return reader.line_end(at + 1);
             }
-            let value = digit::value(b);
-            if count < FRAME {
-                if value < 16 {
-                    let place = count / 2;
-                    frame[place] = (frame[place] << 4) + value;
-                    count += 1;
-                } else {
-                    count = NO_FRAME;
-                }
-            } else {
-                count = NO_FRAME;
-            }
+            reader.byte(*b);
         }
         Taken {
-            reader: Reader {
-                frame,
-                count,
-                number,
-            },
-            used: at,
+            reader,
+            used: chunk.len(),
             line: Line::Unfinished,
         }
     }
@@ -117,41 +90,38 @@ impl Reader {
                 line: Line::Unfinished,
             };
         }
-        line_end(self, 0)
+        self.line_end(0)
     }
-}
 
-// The present line ends here.
-pub(crate) fn line_end(reader: Reader, used: usize) -> Taken
-    ensures { result ≡ line_end used reader }
-{
-    let frame = reader.frame;
-    let number = one_more(reader.number);
-    let next = Reader {
-        frame,
-        count: 0,
-        number,
-    };
-    if reader.count == FRAME {
-        return Taken {
-            reader: next,
-            used,
-            line: Line::Frame,
+    // One byte more of the present line.
+    pub(crate) fn byte(&mut self, b: u8)
+        ensures { self.new ≡ byte_on self.old b }
+    {
+        match digit::value(b) {
+            Some(value) if self.count < FRAME => {
+                let place = self.count / 2;
+                self.frame[place] = (self.frame[place] << 4) + value;
+                self.count += 1;
+            }
+            _ => self.count = NO_FRAME,
+        }
+    }
+
+    // The present line ends here. The number of a line stays at the greatest that there is.
+    pub(crate) fn line_end(self, used: usize) -> Taken
+        ensures { result ≡ line_end used self }
+    {
+        let line = if self.count == FRAME {
+            Line::Frame
+        } else {
+            Line::Length
         };
+        let frame = self.frame;
+        let reader = Reader {
+            frame,
+            count: 0,
+            number: self.number.saturating_add(1),
+        };
+        Taken { reader, used, line }
     }
-    Taken {
-        reader: next,
-        used,
-        line: Line::Length,
-    }
-}
-
-// The next line's number, which stays at the greatest that there is.
-pub(crate) fn one_more(number: u64) -> u64
-    ensures { result ≡ one_more number }
-{
-    if number < 0xffff_ffff_ffff_ffff {
-        return number + 1;
-    }
-    number
 }

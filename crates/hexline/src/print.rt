@@ -1,13 +1,13 @@
 // What is printed: the row of a listing for a line of the text, and the line that closes a reading of
 // a stream.
-ghost use Rattle.std.specs.Prelude.{◌≡◌, ◌∷◌, ◌+◌};
-ghost use Rattle.wire.specs.Fields.{flag};
+ghost use Rattle.std.specs.Prelude.{◌≡◌, ◌∷◌};
 ghost use Rattle.text.specs.Numbers.{decimal_of};
-ghost use Rattle.text.specs.Put.{gave, put_of};
-ghost use Rattle.hexline.specs.Printed.{space, row_of, accepted_columns, spaced, ended};
+ghost use Rattle.text.specs.Put.{gave, Puts};
+ghost use Rattle.hexline.specs.Printed.{space, row_for, accepted_columns, spaced, ended};
 ghost use Rattle.hexline.specs.Tally.{labelled_of, tally_of};
 
-use wire::Answer;
+use text::Writer;
+use wire::Refusal;
 
 // Room for any row.
 pub const ROW: usize = 64;
@@ -15,29 +15,36 @@ pub const ROW: usize = 64;
 // Room for any closing line.
 pub const TALLY: usize = 128;
 
-// Writes the row at the start of out and answers how many bytes it has. An out of less than 64
-// bytes stays as it is, and the answer is 0.
-pub fn row(
-    number: u64,
-    answer: Answer,
-    address: u8,
-    dot: bool,
-    dash: bool,
-    ptt: bool,
-    out: &mut [u8],
-) -> usize
-    ensures { gave result out.new ≡ row_of number answer address dot dash ptt out.old }
+// What a row shows of a frame that was read.
+#[derive(Clone, Copy)]
+pub struct Columns {
+    pub address: u8,
+    pub dot: bool,
+    pub dash: bool,
+    pub ptt: bool,
+}
+
+// Writes the row of a line, by what its reading gave, at the start of out and answers how many bytes it
+// has. An out of less than 64 bytes stays as it is, and the answer is 0.
+pub fn row(number: u64, read: Result<Columns, Refusal>, out: &mut [u8]) -> usize
+    ensures { gave result out.new ≡ row_for number read out.old }
 {
     if out.len() < ROW {
         return 0;
     }
-    let code = wire::number(answer);
-    let first = text::decimal(out, 0, number);
-    let second = column(out, first, code);
-    if code == 0 {
-        return accepted(out, second, address, dot, dash, ptt);
+    let mut writer = Writer { out, at: 0 };
+    writer.decimal(number);
+    match read {
+        Ok(columns) => {
+            column(&mut writer, 0);
+            accepted(&mut writer, columns);
+        }
+        Err(refusal) => {
+            column(&mut writer, refusal.number());
+            writer.put(b" - - - -\n");
+        }
     }
-    text::put(out, second, b" - - - -\n")
+    writer.at
 }
 
 // Writes the closing line at the start of out and answers how many bytes it has. An out of less than
@@ -48,54 +55,38 @@ pub fn tally(frames: u64, skipped: u64, held: u64, out: &mut [u8]) -> usize
     if out.len() < TALLY {
         return 0;
     }
-    let first = labelled(out, 0, b"frames: handed out ", frames);
-    let second = labelled(out, first, b", bytes skipped ", skipped);
-    let third = labelled(out, second, b", bytes held ", held);
-    text::byte(out, third, b'\n')
+    let mut writer = Writer { out, at: 0 };
+    labelled(&mut writer, b"frames: handed out ", frames);
+    labelled(&mut writer, b", bytes skipped ", skipped);
+    labelled(&mut writer, b", bytes held ", held);
+    writer.byte(b'\n');
+    writer.at
 }
 
 // A text, and a number in decimal.
-pub(crate) fn labelled(out: &mut [u8], at: usize, label: &[u8], n: u64) -> usize
-    ensures { gave result out.new ≡ put_of out.old at (labelled_of label.now n) }
+pub(crate) fn labelled(writer: &mut Writer, label: &[u8], n: u64)
+    ensures { Puts writer.old writer.new (labelled_of label.now n) }
 {
-    let next = text::put(out, at, label);
-    text::decimal(out, next, n)
+    writer.put(label);
+    writer.decimal(n);
 }
 
 // Address, DOT, DASH and PTT, and the newline.
-pub(crate) fn accepted(
-    out: &mut [u8],
-    at: usize,
-    address: u8,
-    dot: bool,
-    dash: bool,
-    ptt: bool,
-) -> usize
-    ensures { gave result out.new ≡ put_of out.old at (space ∷ ended (spaced (accepted_columns address dot dash ptt))) }
+pub(crate) fn accepted(writer: &mut Writer, columns: Columns)
+    ensures { Puts writer.old writer.new
+        (space ∷ ended (spaced (accepted_columns columns.address columns.dot columns.dash columns.ptt))) }
 {
-    let third = column(out, at, address);
-    let rest = [
-        b' ',
-        digit_of(dot),
-        b' ',
-        digit_of(dash),
-        b' ',
-        digit_of(ptt),
-        b'\n',
-    ];
-    text::put(out, third, &rest)
+    column(writer, columns.address);
+    column(writer, u8::from(columns.dot));
+    column(writer, u8::from(columns.dash));
+    column(writer, u8::from(columns.ptt));
+    writer.byte(b'\n');
 }
 
 // A space, and a number in decimal.
-pub(crate) fn column(out: &mut [u8], at: usize, n: u8) -> usize
-    ensures { gave result out.new ≡ put_of out.old at (space ∷ decimal_of n) }
+pub(crate) fn column(writer: &mut Writer, n: u8)
+    ensures { Puts writer.old writer.new (space ∷ decimal_of n) }
 {
-    let next = text::byte(out, at, b' ');
-    text::decimal(out, next, n as u64)
-}
-
-pub(crate) fn digit_of(on: bool) -> u8
-    ensures { result ≡ 0x30 + flag on }
-{
-    if on { b'1' } else { b'0' }
+    writer.byte(b' ');
+    writer.decimal(u64::from(n));
 }

@@ -12,7 +12,8 @@ use lib.ListN.{length, take, drop, set, take-append-drop, length-append, length-
 use lib.Seq.{sets, sets-eq, length-sets, take_all, length-take-le}
 use Rattle.wire.proofs.Cases.{by_order}
 use Rattle.wire.proofs.Lists.{sets-append}
-use Rattle.text.specs.Put.{Written, gave, written, put_of, Put}
+use Rattle.text.specs.Put.{Written, gave, written, put_of, Put, Puts}
+use Rattle.text.specs.declared.Writer.{Writer}
 
 module _ (out : List ℕ) (at : ℕ) where
   pub put_none : Put out at [] (at + 0) out
@@ -105,3 +106,16 @@ put_room out at text n {part} inside room is =
     let full : length (put_mid at (at + n - at) out part) ≤ at + n = omega (arith, ap length over, length-sets out at (take n text)) in
     and_then _ _ (take n text) (drop n text) one (put_full _ _ _ full) ∙ ap (put_of out at) (take-append-drop n text))
     (λ whole. one ∙ ap (put_of out at) (take_all n text whole))
+
+-- ---- a writer
+
+pub puts_nothing : {w : Writer} → Puts w w []
+puts_nothing = record { same = refl; put = put_nothing _ _ }
+
+-- one text after another
+pub puts_then : {before mid after : Writer} {x y : List ℕ} → Puts before mid x → Puts mid after y → Puts before after (x ++ y)
+puts_then one other = record { same = other.same ∙ one.same; put = and_then _ _ _ _ one.put other.put }
+
+-- what a writer put stands in the slice when that is back with its owner
+pub handed_back : {before w : Writer} {text after : List ℕ} → Puts before w text → w.out.now ≡ after → gave w.at after ≡ put_of before.out.now before.at text
+handed_back {w} done back = ap (gave w.at) (sym back) ∙ done.put

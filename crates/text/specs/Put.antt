@@ -1,6 +1,7 @@
 -- A text put into a lent slice. Assumes nothing.
 use Rattle.std.specs.Prelude.{ℕ, ◌+◌, ◌≡◌, cond, List, [], ◌∷◌, ◌++◌, ltb, length, drop, set}
 use Rattle.std.proofs.lemmas.List.Edits.{sets}
+use Rattle.text.specs.declared.Writer.{Writer}
 
 -- how many bytes of a slice are written, and the slice afterwards
 pub record Written : Type 0 where
@@ -23,3 +24,8 @@ put_of out at (b ∷ text) = cond (ltb at (length out)) (put_of (set out at b) (
 pub record Put (out : List ℕ) (at : ℕ) (text : List ℕ) (next : ℕ) (after : List ℕ) : Type 0 where
   pub place : next ≡ at + length text
   pub stored : after ≡ sets out at text
+
+-- a writer after a text: the slice that it holds is the same one, and the text is put there from its place on
+pub record Puts (before after : Writer) (text : List ℕ) : Type 0 where
+  pub same : after.out.ghost_name ≡ before.out.ghost_name
+  pub put : gave after.at after.out.now ≡ put_of before.out.now before.at text

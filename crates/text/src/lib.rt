@@ -1,83 +1,90 @@
 // Text put into a lent slice: bytes, numbers in decimal and bytes in hexadecimal.
 //
-// Each call puts its text from a place on and answers the place after it, for the next to go on from.
+// A `Writer` holds the slice, and the place after what is written so far. Each of its methods puts one text there.
 // What the slice has no room for is left out: texts that do not fit end where the slice does.
 #![tactic(auto)]
 
 pub mod place;
 
 ghost use Rattle.std.specs.Prelude.{◌≡◌, [], ◌∷◌, ◌<◌};
-ghost use Rattle.text.specs.Put.{gave, put_of};
+ghost use Rattle.text.specs.Put.{Puts};
 ghost use Rattle.text.specs.Numbers.{decimal_of, commas, three_of, digit_of, hex_of};
 
-// One byte.
-pub fn byte(out: &mut [u8], at: usize, b: u8) -> usize
-    ensures { gave result out.new ≡ put_of out.old at (b ∷ []) }
-{
-    if at < out.len() {
-        out[at] = b;
-        return at + 1;
+// No `impl fmt::Write`: a clause says what `write!` wrote only where it gives Ok, and none says that it does.
+#[derive(Drop)]
+pub struct Writer<'a> {
+    pub out: &'a mut [u8],
+    pub at: usize,
+}
+
+impl Writer<'_> {
+    // One byte.
+    pub fn byte(&mut self, b: u8)
+        ensures { Puts self.old self.new (b ∷ []) }
+    {
+        if self.at < self.out.len() {
+            self.out[self.at] = b;
+            self.at += 1;
+        }
     }
-    at
-}
 
-// A text, as much of it as there is room for.
-pub fn put(out: &mut [u8], at: usize, text: &[u8]) -> usize
-    ensures { gave result out.new ≡ put_of out.old at text.now }
-{
-    if out.len() <= at {
-        return at;
+    // A text, as much of it as there is room for.
+    pub fn put(&mut self, text: &[u8])
+        ensures { Puts self.old self.new text.now }
+    {
+        let at = self.at;
+        let out = &mut *self.out;
+        if out.len() <= at {
+            return;
+        }
+        let n = text.len().min(out.len() - at);
+        let end = at + n;
+        out[at..end].copy_from_slice(&text[..n]);
+        self.at = end;
     }
-    let n = text.len().min(out.len() - at);
-    let end = at + n;
-    out[at..end].copy_from_slice(&text[..n]);
-    end
-}
 
-// A number in decimal.
-#[tactic(auto, using(crate::proofs::Numbers::one_digit_lem))]
-pub fn decimal(out: &mut [u8], at: usize, n: u64) -> usize
-    ensures { gave result out.new ≡ put_of out.old at (decimal_of n) }
-{
-    if n < 10 {
-        return byte(out, at, b'0' + n as u8);
+    // A number in decimal.
+    pub fn decimal(&mut self, n: u64)
+        ensures { Puts self.old self.new (decimal_of n) }
+    {
+        if n >= 10 {
+            self.decimal(n / 10);
+        }
+        self.byte(b'0' + (n % 10) as u8);
     }
-    let last = decimal(out, at, n / 10);
-    byte(out, last, b'0' + (n % 10) as u8)
-}
 
-// A number in decimal, with a comma between groups of three digits.
-#[tactic(auto, using(crate::proofs::Numbers::no_comma))]
-pub fn number(out: &mut [u8], at: usize, n: u64) -> usize
-    ensures { gave result out.new ≡ put_of out.old at (commas n) }
-{
-    if n < 1000 {
-        return decimal(out, at, n);
+    // A number in decimal, with a comma between groups of three digits.
+    #[tactic(auto, using(crate::proofs::Numbers::no_comma))]
+    pub fn number(&mut self, n: u64)
+        ensures { Puts self.old self.new (commas n) }
+    {
+        if n < 1000 {
+            self.decimal(n);
+            return;
+        }
+        self.number(n / 1000);
+        self.group(n % 1000);
     }
-    let last = number(out, at, n / 1000);
-    group(out, last, n % 1000)
-}
 
-// A comma, and a group of three digits.
-pub(crate) fn group(out: &mut [u8], at: usize, n: u64) -> usize
-    requires { n < 1000 }
-    ensures { gave result out.new ≡ put_of out.old at (three_of n) }
-{
-    let three = [
-        b',',
-        b'0' + (n / 100) as u8,
-        b'0' + (n / 10 % 10) as u8,
-        b'0' + (n % 10) as u8,
-    ];
-    put(out, at, &three)
-}
+    // A comma, and a group of three digits.
+    pub(crate) fn group(&mut self, n: u64)
+        requires { n < 1000 }
+        ensures { Puts self.old self.new (three_of n) }
+    {
+        self.put(&[
+            b',',
+            b'0' + (n / 100) as u8,
+            b'0' + (n / 10 % 10) as u8,
+            b'0' + (n % 10) as u8,
+        ]);
+    }
 
-// A byte in two upper-case hexadecimal digits.
-pub fn hex(out: &mut [u8], at: usize, b: u8) -> usize
-    ensures { gave result out.new ≡ put_of out.old at (hex_of b) }
-{
-    let two = [digit(b / 16), digit(b % 16)];
-    put(out, at, &two)
+    // A byte in two upper-case hexadecimal digits.
+    pub fn hex(&mut self, b: u8)
+        ensures { Puts self.old self.new (hex_of b) }
+    {
+        self.put(&[digit(b / 16), digit(b % 16)]);
+    }
 }
 
 pub(crate) fn digit(n: u8) -> u8

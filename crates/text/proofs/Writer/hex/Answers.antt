@@ -1,6 +1,6 @@
--- `hex` meets its contract: the higher digit, and the lower one. Assumes nothing.
+-- `Writer::hex` meets its contract: the higher digit, and the lower one. Assumes nothing.
 use Rattle.text.specs.Numbers.{hex_of}
-use Rattle.text.proofs.hex.Goals as goal
+use Rattle.text.proofs.Writer.hex.Goals as goal
 
 pub returns : goal.returns
 unfolding hex_of

@@ -1,5 +1,0 @@
--- `decimal` ends, since each number is less than the one before. Assumes nothing.
-use Rattle.text.proofs.+decimal.Given as goal
-
-abbrev pub decreases-decimal : goal.decreases-decimal
-decreases-decimal l = l.n

@@ -1,5 +1,0 @@
--- `number` ends, since each number is less than the one before. Assumes nothing.
-use Rattle.text.proofs.+number.Given as goal
-
-abbrev pub decreases-number : goal.decreases-number
-decreases-number l = l.n
