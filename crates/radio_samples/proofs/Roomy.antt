@@ -1,10 +1,10 @@
--- Where the samples of a frame can be read or written, and where not: each test that holds, and what comes of it.
+-- Where the samples of a frame can be read or written, and where not, and what comes of it.
 -- Assumes nothing.
 use mathlib.Core.Path.{◌≡◌, sym, ◌∙◌}
 use mathlib.Core.Bool.{true, false, ◌&&◌}
 use mathlib.Core.List.{List}
-use Prim.Native.Nat.{ℕ, ◌<◌, ◌≤◌}
-use borrow.Author.Tests.{eq-eqb, ne_eqb, eqb-true, le-leb, lt-leb, leb-true}
+use Prim.Native.Nat.{ℕ, ◌≤◌}
+use borrow.Author.Tests.{eq-eqb, eqb-true, le-leb, leb-true}
 use lib.Dec.{eqb, leb}
 use lib.IntN.{ℤ}
 use lib.ListN.{length}
@@ -26,31 +26,12 @@ looked_up n r e =
     (λ isn't. let other : result_ok (lookup n) ≡ None = rw isn't in cc)
 
 module _ (n iq mic bytes due : ℕ) where
-  pub bad_count : counted n ≡ false → fit n iq mic bytes due ≡ None
+  pub has_room : counted n ≡ true → values n ≤ iq → slots n ≤ mic → bytes ≡ due → roomy n iq mic bytes due ≡ true
   unfolding roomy
-  bad_count other = rw other
+  has_room is iq_room mic_room same = rw (is, le-leb _ _ iq_room, le-leb _ _ mic_room, eq-eqb bytes due same)
 
-  module _ (is : counted n ≡ true) where
-    pub short-iq : iq < values n → fit n iq mic bytes due ≡ None
-    unfolding roomy
-    short-iq short = rw (is, lt-leb _ _ short)
-
-    module _ (iq_room : values n ≤ iq) where
-      pub short-mic : mic < slots n → fit n iq mic bytes due ≡ None
-      unfolding roomy
-      short-mic short = rw (is, le-leb _ _ iq_room, lt-leb _ _ short)
-
-      module _ (mic_room : slots n ≤ mic) where
-        pub bad_length : (bytes ≡ due → ⊥) → fit n iq mic bytes due ≡ None
-        unfolding roomy
-        bad_length other = rw (is, le-leb _ _ iq_room, le-leb _ _ mic_room, ne_eqb bytes due other)
-
-        pub has_room : bytes ≡ due → roomy n iq mic bytes due ≡ true
-        unfolding roomy
-        has_room same = rw (is, le-leb _ _ iq_room, le-leb _ _ mic_room, eq-eqb bytes due same)
-
-        pub all_there : bytes ≡ due → fit n iq mic bytes due ≡ Some (row_of n)
-        all_there same = rw (has_room same)
+  pub all_there : counted n ≡ true → values n ≤ iq → slots n ≤ mic → bytes ≡ due → fit n iq mic bytes due ≡ Some (row_of n)
+  all_there is iq_room mic_room same = rw (has_room is iq_room mic_room same)
 
   -- what is known where a row was given, and where none was
   pub fits : (r : Row) → fit n iq mic bytes due ≡ Some r → (roomy n iq mic bytes due ≡ true) × (r.receivers ≡ n)

@@ -2,11 +2,11 @@
 use mathlib.Core.Path.{◌≡◌, refl, sym, ap, ◌∙◌}
 use mathlib.Core.List.{List}
 use Prim.Native.Nat.{ℕ, ◌+◌, ◌-◌, ◌*◌, ◌<◌, ◌≤◌}
-use native.Mathlib.Nat.{le_trans, zero-mul, add-mul, one-mul, mul_comm, add_assoc, add-sub_cancel_left}
+use native.Mathlib.Nat.{le_trans, zero-mul, add-mul, one-mul, add_assoc, add-sub_cancel_left}
 use native.Mathlib.Omega.{arith}
 use borrow.Rule.Slice.PartMut.{put_mid, mid_of, mid_len}
 use lib.IntN.{ℤ}
-use lib.ListN.{length, get_or, take, drop, set, length-set, length-take, length-drop}
+use lib.ListN.{length, get_or, take, drop, set, length-set}
 use lib.Seq.{get_or-take, get_or-drop}
 use Rattle.wire.specs.Lists.{tab, over, over_at}
 use Rattle.wire.proofs.Lists.{over-more, length-over_at, over_at-same, over-then}
@@ -66,16 +66,6 @@ module _ (payload : List ℕ) (n : ℕ) (iq₀ mic₀ : List ℤ) (size count : 
       pub slot_room : t * (2 * n) + 2 * n ≤ length iq
       slot_room = rw so_far.iq_long values_room
 
-      pub mic_place_lem : t < length mic
-      mic_place_lem = omega (arith, so_far.mic_room, so_far.count_is, so_far.mic_long)
-
-      -- the part of the payload that slot t is, by its width as the code computes it
-      module _ (width : ℕ) (width_is : width ≡ size) where
-        pub slot_length : slot n ≤ length (take width (drop (t * size) payload))
-        slot_length =
-            rw (width_is, length-take size (drop (t * size) payload), length-drop (t * size) payload, so_far.whole)
-            (omega (arith, in_payload, so_far.size_is))
-
       -- the samples of slot t, as a part of the payload, are those that its values stand for
       value_in_slot : (j : ℕ) → j < 2 * n → sample24 (take size (drop (t * size) payload)) (3 * j) ≡ iq_at n payload (t * (2 * n) + j)
       value_in_slot j inside =
@@ -122,10 +112,3 @@ module _ (payload : List ℕ) (n : ℕ) (iq₀ mic₀ : List ℤ) (size count : 
             mic_is =
                 mic-wrote ∙ rw (so_far.mic_is, mic_in_slot) (over-more t (mic_at n payload) mic₀ (omega (arith, so_far.mic_room, so_far.count_is)));
           }
-
-    pub all_slots : count ≤ t → (iq ≡ over (values n) (iq_at n payload) iq₀) × (mic ≡ over (slots n) (mic_at n payload) mic₀)
-    all_slots end =
-        let last : t ≡ slots n = omega (arith, so_far.within, so_far.count_is) in (
-          so_far.iq_is ∙ ap (λ k. over k (iq_at n payload) iq₀) (ap (λ k. k * (2 * n)) last ∙ mul_comm (slots n) (2 * n)),
-          so_far.mic_is ∙ ap (λ k. over k (mic_at n payload) mic₀) last,
-        )
