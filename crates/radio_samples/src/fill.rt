@@ -74,6 +74,7 @@ pub(crate) fn write_values(values: &[i32], part: &mut [u8])
     }
 }
 
+// A sample's three bytes, each stored by itself: as a copy of three bytes the same frame took five times as long.
 pub(crate) fn write_value(x: i32, part: &mut [u8], at: usize)
     requires { at + 3 ≤ length part.old }
     ensures { part.new ≡ sets part.old at (bytes_of 3 (unsigned 24 x)) }
