@@ -1,7 +1,8 @@
 -- Document 01's calls of the stream through the door: its record as two slices, and the answer as its number. Assumes nothing.
-use Rattle.std.specs.Prelude.{ℕ, cond, List}
+use Rattle.std.specs.Prelude.{ℕ, cond, List, Result, Ok, Err}
 use Rattle.std.proofs.lemmas.List.Edits.{sets}
-use Rattle.wire.specs.Answers.{number_of}
+use Rattle.wire.specs.Answers.{Accepted, number_of}
+use Rattle.wire.specs.declared.Refusal.{Refusal}
 use Rattle.stream.specs.Feed as Feed
 use Rattle.stream.specs.Record.{fresh_of, sound_of}
 use Rattle.cells.specs.Cells.{got, bad_state, kept}
@@ -32,6 +33,11 @@ pub record Outcome : Type 0 where
 
 abbrev pub gave : ℕ → List ℕ → List ℕ → List ℕ → Outcome
 gave k counts held output = record { number = k; counts = counts; held = held; output = output }
+
+-- the number of what a feed found, or of its refusal
+abbrev pub got_by : Result ℕ Refusal → ℕ
+got_by (Ok frames) = got (number_of Accepted) frames
+got_by (Err refusal) = got (number_of (Err refusal)) 0
 
 -- document 01's feed, of the record that the cells are
 abbrev pub shown : List ℕ → List ℕ → Feed.Outcome → Outcome

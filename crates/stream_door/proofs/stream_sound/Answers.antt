@@ -5,17 +5,17 @@ use Rattle.stream_cells.proofs.Cases.{stream-held}
 use Rattle.stream_door.proofs.StreamCases.{sound_bad, sound_good}
 use Rattle.stream_door.proofs.stream_sound.Goals as goal
 
-pub returns-then-not-room : goal.returns-then-not-room
-returns-then-not-room c = sym (sound_bad _ _ (sym c.room.ensures ∙ c.if-not-room.true))
+pub returns-then-is_none : goal.returns-then-is_none
+returns-then-is_none c = c.number.ensures ∙ sym (sound_bad _ _ (sym c.room.ensures.some ∙ c.if-is_none.ensures))
 
 pub returns-then-not-sound : goal.returns-then-not-sound
 returns-then-not-sound c =
-    let fits = sym c.room.ensures ∙ c.if-not-room.false in
-    let tested = sym (c.sound.ensures ∙ ap sound_of (c.stream_in-given.ensures ∙ stream-held _ _ fits)) in
-    sym (sound_good _ _ fits _ (tested ∙ c.if-not-sound.true))
+    let fits = sym c.room.ensures.some ∙ c.if-is_none.ensures in
+    let tested = sym (c.sound.ensures ∙ ap sound_of (c.stream_in.ensures ∙ stream-held _ _ fits)) in
+    c.number-then-not-sound.ensures ∙ sym (sound_good _ _ fits _ (tested ∙ c.if-not-sound.true))
 
 pub returns : goal.returns
 returns c =
-    let fits = sym c.room.ensures ∙ c.if-not-room.false in
-    let tested = sym (c.sound.ensures ∙ ap sound_of (c.stream_in-given.ensures ∙ stream-held _ _ fits)) in
+    let fits = sym c.room.ensures.some ∙ c.if-is_none.ensures in
+    let tested = sym (c.sound.ensures ∙ ap sound_of (c.stream_in.ensures ∙ stream-held _ _ fits)) in
     sym (sound_good _ _ fits _ (tested ∙ c.if-not-sound.false))
