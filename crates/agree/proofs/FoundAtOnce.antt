@@ -4,7 +4,7 @@ use mathlib.Core.Bool.{true}
 use mathlib.Core.List.{List}
 use Prim.Native.Nat.{ℕ, ◌*◌}
 use lib.ListN.{take}
-use Rattle.wire.specs.declared.Answer.TheVariants.{Accepted}
+use Rattle.wire.specs.Answers.{Accepted}
 use Rattle.reading.specs.Reading.{good}
 use Rattle.plain.specs.Plain.{plain_of}
 use Rattle.plain.proofs.Cases.{accepted_passes}

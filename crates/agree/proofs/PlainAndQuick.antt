@@ -6,7 +6,7 @@ use native.Mathlib.Nat.{zero-add}
 use native.Mathlib.Omega.{arith}
 use lib.ListN.{length, take, drop, replicate, length-replicate, length-take}
 use lib.Seq.{take_at, take-add, take_all}
-use Rattle.wire.specs.declared.Answer.TheVariants.{Accepted}
+use Rattle.wire.specs.Answers.{Accepted}
 use Rattle.reading.specs.Reading.{reading}
 use Rattle.reading.proofs.Readings.{counted, place_after, left_is}
 use Rattle.plain.specs.Plain.{accepted, plain_of}
