@@ -14,6 +14,7 @@ ghost use Rattle.explained.specs.Shown.{shown_of, no_place};
 
 use sentences::no_reason;
 use sentences::sentence::sentence;
+use text::Writer;
 use why::{MOST, Reason};
 
 // Room for all that is shown for a place.
@@ -30,18 +31,14 @@ pub fn shown(input: &[u8], place: usize, reason: Reason, out: &mut [u8]) -> usiz
     if no_place(input, place, reason) {
         return 0;
     }
-    let said = sentence(input, place, reason, out, 0);
-    window::windows(input, place, reason, out, said)
+    let at = sentence(input, place, reason, out, 0);
+    let mut writer = Writer { out, at };
+    window::windows(&mut writer, input, place, reason);
+    writer.at
 }
 
 pub(crate) fn no_place(input: &[u8], place: usize, reason: Reason) -> bool
     ensures { result ≡ no_place input.now place reason }
 {
-    if MOST < input.len() {
-        return true;
-    }
-    if input.len() <= place {
-        return true;
-    }
-    no_reason(place, reason)
+    MOST < input.len() || input.len() <= place || no_reason(place, reason)
 }

@@ -31,14 +31,11 @@ pub fn lines(frames: &[u8], count: usize, out: &mut [u8]) -> usize
     if out.len() < count * LINE {
         return 0;
     }
-    let mut t = 0;
-    while t < count {
+    // By place, and not by `chunks_exact_mut`: once its pieces are back nothing is known of the slice but its length.
+    for t in 0..count {
         let from = t * 512;
-        let past = from + 512;
         let start = t * LINE;
-        let end = start + LINE;
-        line(&frames[from..past], &mut out[start..end]);
-        t += 1;
+        line(&frames[from..from + 512], &mut out[start..start + LINE]);
     }
     count * LINE
 }
@@ -48,12 +45,9 @@ pub(crate) fn line(frame: &[u8], out: &mut [u8])
     requires { (length frame.now ≡ 512) × (length out.old ≡ 1025) }
     ensures { out.new ≡ line_of frame.now }
 {
-    let mut k = 0;
-    while k < 512 {
-        let b = frame[k];
-        out[k * 2] = digit(b / 16);
-        out[k * 2 + 1] = digit(b % 16);
-        k += 1;
+    for (k, b) in frame.iter().enumerate() {
+        out[k * 2] = digit(*b / 16);
+        out[k * 2 + 1] = digit(*b % 16);
     }
     out[1024] = b'\n';
 }

@@ -5,22 +5,23 @@ use mathlib.Core.Bool.{true, false}
 use mathlib.Core.List.{List}
 use Prim.Native.Nat.{ℕ}
 use native.Mathlib.Omega.{arith}
+use borrow.Author.Tests.{eq-eqb}
 use lib.IntN.{pos}
 use lib.ListN.{length, replicate, drop_of_length-le}
-use Rattle.wire.specs.Answers.{accepts}
+use Rattle.std.specs.Prelude.{Err}
+use Rattle.wire.specs.Answers.{Accepted}
 use Rattle.wire.specs.Sync.{sync_at, no_sync}
 use Rattle.wire.specs.Every.{all_zero}
 use Rattle.wire.specs.declared.Cause.{Cause}
-use Rattle.wire.specs.declared.Answer.TheVariants.{Accepted, Reserved}
+use Rattle.wire.specs.declared.Refusal.TheVariants.{Reserved}
 use Rattle.layout.specs.Slots.{slots, padding}
 use Rattle.radio_status.specs.Record.{fresh_status}
 use Rattle.radio_status.specs.Words.{address, dot_of, dash_of, ptt_of, applied}
 use Rattle.radio_status.specs.declared.record.Status.{Status}
 use Rattle.radio_status.specs.declared.words.Word.{Word}
 use Rattle.radio_status.specs.declared.words.Word.TheVariants.{Input, Forward, Reverse, Supply, Board, Unlisted}
-use Rattle.radio.specs.Read.{byte, word, padded, level_answer, answer_of}
-use Rattle.radio.specs.declared.Reading.{Reading}
-use Rattle.radio.proofs.Cases.{no_sync_lem, all_good, frame_refused, levels_left, read_taken, read-refused}
+use Rattle.radio.specs.Read.{Reading, byte, word, padded, level_answer, frame_answer, answer_of}
+use Rattle.radio.proofs.Cases.{all_good, frame_refused, levels_left, read_taken, read-refused}
 use Rattle.hexline.specs.Lines.{a_frame}
 use Rattle.hexline.specs.Printed.{text_of}
 use Rattle.listed.specs.Rows.{reading_of, row_text}
@@ -57,14 +58,17 @@ module _ (number : ℕ) (frame : List ℕ) (whole : length frame ≡ 512) where
       let told = keys (byte frame 3) (word frame) fresh_status in
       reads ∙ (λ i. text_of number Accepted (address (byte frame 3)) (told.0 i) (told.1 i) (told.2 i))
 
-  pub with_level : (cause : Cause) → sync_at frame 0 ≡ true → level_answer frame ≡ Reserved cause → row_text number (a_frame frame) ≡ text_of number (Reserved cause) 0 false false false
+  pub with_level : (cause : Cause) → sync_at frame 0 ≡ true → level_answer frame ≡ Err (Reserved cause) → row_text number (a_frame frame) ≡ text_of number (Err (Reserved cause)) 0 false false false
   unfolding row_text reading_of slots text_of
   with_level cause synced above =
-      ap (λ o. shows number frame o.reading) (read-refused frame 1 (replicate 126 (pos 0)) (replicate 63 (pos 0)) fresh_status (Reserved cause) (before_levels synced ∙ above) refl)
+      ap (λ o. shows number frame o.reading) (read-refused frame 1 (replicate 126 (pos 0)) (replicate 63 (pos 0)) fresh_status (Err (Reserved cause)) (before_levels synced ∙ above) refl)
 
-  pub without_sync : sync_at frame 0 ≡ false → row_text number (a_frame frame) ≡ text_of number (no_sync frame) 0 false false false
+  no_sync_first : sync_at frame 0 ≡ false → frame_answer frame 1 126 63 ≡ Err (no_sync frame)
+  unfolding frame_answer slots
+  no_sync_first missing = rw (eq-eqb (length frame) 512 whole, missing)
+
+  pub without_sync : sync_at frame 0 ≡ false → row_text number (a_frame frame) ≡ text_of number (Err (no_sync frame)) 0 false false false
   unfolding row_text reading_of slots text_of
   without_sync missing =
-      let tested = no_sync_lem frame 1 126 63 whole (omega arith) (omega arith) missing in
-      let is : answer_of frame 1 126 63 ≡ no_sync frame = frame_refused frame 1 126 63 refl (ap accepts tested) ∙ tested in
-      ap (λ o. shows number frame o.reading) (read-refused frame 1 (replicate 126 (pos 0)) (replicate 63 (pos 0)) fresh_status (no_sync frame) is refl)
+      let is : answer_of frame 1 126 63 ≡ Err (no_sync frame) = frame_refused frame 1 126 63 refl (no_sync frame) (no_sync_first missing) in
+      ap (λ o. shows number frame o.reading) (read-refused frame 1 (replicate 126 (pos 0)) (replicate 63 (pos 0)) fresh_status (Err (no_sync frame)) is refl)

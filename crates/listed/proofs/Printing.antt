@@ -10,32 +10,48 @@ use borrow.Rule.Slice.PartMut.{put_mid, Post-is, same_len_mid}
 use lib.IntN.{ℤ, pos}
 use lib.ListN.{length, take, drop, replicate, take-append-drop, length-append, length-drop}
 use lib.Seq.{take_all, drop-drop, drop-length, length-take-le}
+use Rattle.std.specs.Prelude.{Result, Ok, Err}
 use Rattle.wire.proofs.Cases.{by_order}
+use Rattle.wire.specs.declared.Refusal.{Refusal}
 use Rattle.layout.specs.Slots.{slots}
 use Rattle.radio_status.specs.Record.{fresh_status}
 use Rattle.radio_status.specs.Words.{address}
 use Rattle.radio_status.specs.declared.record.Status.{Status}
-use Rattle.radio.specs.Read.{byte, read_of, gave as read}
-use Rattle.radio.specs.declared.Reading.{Reading}
+use Rattle.radio.specs.Read.{Reading, Outcome, byte, read_of, gave as read}
+use Rattle.radio.specs.declared.Reading.{Reading as Given}
 use Rattle.hexline.specs.Lines.{Found, a_frame}
 use Rattle.text.specs.Put.{Written, gave}
-use Rattle.hexline.specs.Printed.{row_of}
+use Rattle.hexline.proofs.Columns.{refused_alone}
+use Rattle.hexline.specs.Printed.{text_of, row_of, row_for}
+use Rattle.hexline.specs.declared.print.Columns.{Columns}
 use Rattle.hexline.specs.Text.{line_in, found_by}
 use Rattle.hexline.specs.declared.Line.{Line}
 use Rattle.hexline.specs.declared.Line.TheVariants.{Unfinished}
 use Rattle.hexline.specs.declared.Taken.{Taken}
-use Rattle.listed.specs.Rows.{reading_of, row_text, rows_of, printed, printed_at, row_at}
+use Rattle.listed.specs.Rows.{reading_of, text_for, row_text, rows_of, printed, printed_at, row_at}
 
--- the row printed from what the read gave
-pub frame_row : (number : ℕ) (frame : List ℕ) (r : Reading) (iq mic : List ℤ) (s : Status) (out : List ℕ) (w : Written)
-    → s ≡ fresh_status
-    → read r iq mic ≡ read_of frame 1 (replicate 126 (pos 0)) (replicate 63 (pos 0)) s
-    → w ≡ row_of number r.answer (address (byte frame 3)) r.status.dot r.status.dash r.status.ptt out
-    → w ≡ printed (row_text number (a_frame frame)) out
-unfolding row_text reading_of row_of slots
-frame_row number frame r iq mic s out w fresh reads e =
-    let same : r ≡ reading_of frame = ap (λ o. o.reading) (reads ∙ ap (read_of frame 1 (replicate 126 (pos 0)) (replicate 63 (pos 0))) fresh) in
-    e ∙ ap (λ (q : Reading). row_of number q.answer (address (byte frame 3)) q.status.dot q.status.dash q.status.ptt out) same
+-- what is shown of a frame, from what the read gave
+module _ (number : ℕ) (frame : List ℕ) (iq mic : List ℤ) (s : Status) (fresh : s ≡ fresh_status) where
+  abbrev row_by : Reading → List ℕ
+  row_by q = text_of number q.answer (address (byte frame 3)) q.status.dot q.status.dash q.status.ptt
+
+  reads_as : (o : Outcome) → o ≡ read_of frame 1 (replicate 126 (pos 0)) (replicate 63 (pos 0)) s → row_by o.reading ≡ row_text number (a_frame frame)
+  unfolding row_text reading_of slots
+  reads_as o e = ap (λ (p : Outcome). row_by p.reading) (e ∙ ap (read_of frame 1 (replicate 126 (pos 0)) (replicate 63 (pos 0))) fresh)
+
+  pub columns_read : (result : Result Given Refusal) (r : Given) → result ≡ Ok r → read s result iq mic ≡ read_of frame 1 (replicate 126 (pos 0)) (replicate 63 (pos 0)) s
+      → text_for number (Ok (record { address = address (byte frame 3); dot = r.status.dot; dash = r.status.dash; ptt = r.status.ptt })) ≡ row_text number (a_frame frame)
+  columns_read result r was e = reads_as (read s (Ok r) iq mic) (ap (λ x. read s x iq mic) (sym was) ∙ e)
+
+  pub columns_refused : (result : Result Given Refusal) (e : Refusal) → result ≡ Err e → read s result iq mic ≡ read_of frame 1 (replicate 126 (pos 0)) (replicate 63 (pos 0)) s
+      → text_for number (Err e) ≡ row_text number (a_frame frame)
+  columns_refused result e was is = refused_alone number e _ _ _ _ ∙ reads_as (read s (Err e) iq mic) (ap (λ x. read s x iq mic) (sym was) ∙ is)
+
+-- the row that is printed for what the reading of a line gave
+pub row_printed : (number : ℕ) (shown : Result Columns Refusal) (out text : List ℕ) (w : Written) → text_for number shown ≡ text → w ≡ row_for number shown out → w ≡ printed text out
+unfolding row_of
+row_printed number (Ok c) out text w is e = e ∙ ap (λ t. printed t out) is
+row_printed number (Err r) out text w is e = e ∙ ap (λ t. printed t out) is
 
 -- where no line ended no row is printed, and where one did its own
 pub no_row : (t : Taken) (out : List ℕ) → t.line ≡ Unfinished → gave 0 out ≡ printed (rows_of (found_by t)) out

@@ -1,15 +1,17 @@
 -- Document 01, "The listing program": the row that is printed for a line, and the listing of a whole text. Assumes nothing.
-use Rattle.std.specs.Prelude.{ℕ, ◌+◌, false, cond, List, [], ◌∷◌, ◌++◌, ltb, pos, length, take, drop, replicate}
-use Rattle.wire.specs.declared.Answer.TheVariants.{Length}
+use Rattle.std.specs.Prelude.{ℕ, ◌+◌, false, cond, Result, Ok, Err, List, [], ◌∷◌, ◌++◌, ltb, pos, length, take, drop, replicate}
+use Rattle.wire.specs.Answers.{Accepted}
+use Rattle.wire.specs.declared.Refusal.{Refusal}
+use Rattle.wire.specs.declared.Refusal.TheVariants.{Length}
 use Rattle.layout.specs.Slots.{values, slots}
 use Rattle.radio_status.specs.Record.{fresh_status}
 use Rattle.radio_status.specs.Words.{address}
-use Rattle.radio.specs.Read.{byte, read_of}
-use Rattle.radio.specs.declared.Reading.{Reading}
+use Rattle.radio.specs.Read.{Reading, byte, read_of}
 use Rattle.hexline.specs.Lines.{Content, a_frame, no_frame, Found, lines, numbered}
 use Rattle.text.specs.Put.{Written, gave, written}
 use Rattle.hexline.specs.Printed.{text_of}
 use Rattle.hexline.specs.Text.{found_by}
+use Rattle.hexline.specs.declared.print.Columns.{Columns}
 use Rattle.hexline.specs.declared.Taken.{Taken}
 
 -- "one radio frame a line, one receiver": the read of a line's frame, into slices that are just long enough
@@ -21,7 +23,12 @@ unfoldable pub row_text : ℕ → Content → List ℕ
 row_text number (a_frame frame) =
     let r = reading_of frame in
     text_of number r.answer (address (byte frame 3)) r.status.dot r.status.dash r.status.ptt
-row_text number no_frame = text_of number Length 0 false false false
+row_text number no_frame = text_of number (Err Length) 0 false false false
+
+-- the row's text by what the reading of a line gave: what is shown of it, or its refusal
+abbrev pub text_for : ℕ → Result Columns Refusal → List ℕ
+text_for number (Ok c) = text_of number Accepted c.address c.dot c.dash c.ptt
+text_for number (Err e) = text_of number (Err e) 0 false false false
 
 -- "For each it prints a line"
 abbrev pub rows_of : List Found → List ℕ

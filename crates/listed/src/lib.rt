@@ -5,15 +5,16 @@
 // `row`. The rows gather in a lent slice, which the caller writes out before it is full.
 #![tactic(auto)]
 
-ghost use Rattle.std.specs.Prelude.{◌≡◌};
+ghost use Rattle.std.specs.Prelude.{◌≡◌, ℕ};
 ghost use Rattle.hexline.specs.Lines.{a_frame};
 ghost use Rattle.text.specs.Put.{gave};
 ghost use Rattle.hexline.specs.Text.{found_by};
-ghost use Rattle.listed.specs.Rows.{row_text, rows_of, printed, row_at};
+ghost use Rattle.listed.specs.Rows.{text_for, row_text, rows_of, printed, row_at};
 
+use hexline::print::Columns;
 use hexline::{Line, Taken, print};
 use radio_status::record::Status;
-use wire::Answer;
+use wire::Refusal;
 
 // Writes the row of the line that ended, if one did, at a place of out, and answers the place after
 // it. With less than 64 bytes from that place on, out stays as it is and the answer is the place.
@@ -31,34 +32,28 @@ pub(crate) fn start(taken: Taken, out: &mut [u8]) -> usize
     ensures { gave result out.new ≡ printed (rows_of (found_by taken)) out.old }
 {
     let reader = taken.reader;
-    let number = reader.number;
     let frame = reader.frame;
-    let line = taken.line;
-    match line {
-        Line::Unfinished => 0,
-        Line::Frame => frame_row(number, &frame, out),
-        Line::Length => print::row(number, Answer::Length, 0, false, false, false, out),
-    }
+    let read = match taken.line {
+        Line::Unfinished => return 0,
+        Line::Frame => shown(&frame),
+        Line::Length => Err(Refusal::Length),
+    };
+    print::row(reader.number, read, out)
 }
 
-// The row of a line that is a frame: what the read of it answers for one receiver, the address from
-// C0, and DOT, DASH and PTT from the status record.
-pub(crate) fn frame_row(number: u64, frame: &[u8; 512], out: &mut [u8]) -> usize
-    ensures { gave result out.new ≡ printed (row_text number (a_frame frame.now)) out.old }
+// What a row shows of a line that is a frame, by the read of it for one receiver: the address from C0, and DOT,
+// DASH and PTT from the status record.
+pub(crate) fn shown(frame: &[u8; 512]) -> Result<Columns, Refusal>
+    ensures { (number : ℕ) → text_for number result ≡ row_text number (a_frame frame.now) }
 {
     let mut iq = [0i32; 126];
     let mut mic = [0i16; 63];
-    let reading = radio::read(frame, 1, &mut iq, &mut mic, Status::fresh());
-    let answer = reading.answer;
+    let reading = radio::read(frame, 1, &mut iq, &mut mic, Status::fresh())?;
     let status = reading.status;
-    let address = frame[3] / 8 % 32;
-    print::row(
-        number,
-        answer,
-        address,
-        status.dot,
-        status.dash,
-        status.ptt,
-        out,
-    )
+    Ok(Columns {
+        address: frame[3] / 8 % 32,
+        dot: status.dot,
+        dash: status.dash,
+        ptt: status.ptt,
+    })
 }

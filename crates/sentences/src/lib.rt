@@ -15,6 +15,7 @@ ghost use Rattle.text.specs.Put.{gave};
 ghost use Rattle.sentences.specs.Sentence.{no_reason};
 ghost use Rattle.sentences.specs.Run.{run_line_of, no_run, past_end_of};
 
+use text::Writer;
 use why::{MOST, Reason, Run};
 
 // Room for any line about a run, and for the line about a place past the end.
@@ -24,15 +25,15 @@ pub const LINE: usize = 128;
 pub fn run_line(input: &[u8], start: usize, run: Run, out: &mut [u8]) -> usize
     ensures { gave result out.new ≡ run_line_of input.now start run out.old }
 {
-    let end = run.end;
-    let reason = run.reason;
     if out.len() < LINE {
         return 0;
     }
-    if no_run(input, start, end, reason) {
+    if no_run(input, start, run) {
         return 0;
     }
-    runs::run(input, start, end, reason, out)
+    let mut writer = Writer { out, at: 0 };
+    runs::run(&mut writer, input, start, run);
+    writer.at
 }
 
 // The line for a place that an input of this length does not have.
@@ -42,27 +43,16 @@ pub fn past_end(length: usize, out: &mut [u8]) -> usize
     if out.len() < LINE {
         return 0;
     }
-    let next = text::put(
-        out,
-        0,
-        b"why: the place is past the end of the input, which has ",
-    );
-    parts::counted(length, b" byte\n", b" bytes\n", out, next)
+    let mut writer = Writer { out, at: 0 };
+    writer.put(b"why: the place is past the end of the input, which has ");
+    parts::counted(&mut writer, length, b" byte\n", b" bytes\n");
+    writer.at
 }
 
-pub(crate) fn no_run(input: &[u8], start: usize, end: usize, reason: Reason) -> bool
-    ensures { result ≡ no_run input.now start end reason }
+pub(crate) fn no_run(input: &[u8], start: usize, run: Run) -> bool
+    ensures { result ≡ no_run input.now start run.end run.reason }
 {
-    if MOST < input.len() {
-        return true;
-    }
-    if input.len() < end {
-        return true;
-    }
-    if end <= start {
-        return true;
-    }
-    no_reason(start, reason)
+    MOST < input.len() || input.len() < run.end || run.end <= start || no_reason(start, run.reason)
 }
 
 // Whether no place like this one can have the reason: none is given, the frame begins after it, or the
@@ -73,8 +63,7 @@ pub fn no_reason(place: usize, reason: Reason) -> bool
     match reason {
         Reason::NotGiven => true,
         Reason::Inside(q) => place < q,
-        Reason::Near(k) => 2 < k,
-        Reason::Far(k) => 2 < k,
+        Reason::Near(k) | Reason::Far(k) => 2 < k,
         Reason::Held => false,
     }
 }

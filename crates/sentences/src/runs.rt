@@ -1,82 +1,75 @@
 // The line about a run.
-ghost use Rattle.std.specs.Prelude.{◌≡◌, ◌≤◌};
-ghost use Rattle.text.specs.Put.{gave, put_of};
+ghost use Rattle.std.specs.Prelude.{◌≤◌, ◌+◌, get_or};
+ghost use Rattle.text.specs.Put.{Puts};
 ghost use Rattle.sentences.specs.Run.{run_text, run_handed, run_skipped, run_held};
 
-use crate::parts::{byte_after, counted, labelled, minus, subject, wrong};
-use why::Reason;
+use crate::parts::{byte_after, counted, labelled, subject, wrong};
+use text::Writer;
+use why::{Reason, Run};
 
-pub(crate) fn run(input: &[u8], start: usize, end: usize, reason: Reason, out: &mut [u8]) -> usize
+pub(crate) fn run(writer: &mut Writer, input: &[u8], start: usize, run: Run)
     requires { start ≤ 65536 }
-    ensures { gave result out.new ≡ put_of out.old 0 (run_text input.now start end reason) }
+    ensures { Puts writer.old writer.new (run_text input.now start run.end run.reason) }
 {
-    match reason {
-        Reason::NotGiven => 0,
-        Reason::Inside(_) => handed(start, end, out),
-        Reason::Near(k) => {
-            let value = byte_after(input, start, k as usize);
-            skipped(start, end, k, start, value, out)
-        }
-        Reason::Far(k) => {
-            let value = byte_after(input, start, 512 + k as usize);
-            skipped(start, end, k, start + 512, value, out)
-        }
-        Reason::Held => held(start, end, out),
+    let end = run.end;
+    match run.reason {
+        Reason::NotGiven => {}
+        Reason::Inside(_) => handed(writer, start, end),
+        Reason::Near(k) => skipped(writer, input, start, end, start, k),
+        Reason::Far(k) => skipped(writer, input, start, end, start + 512, k),
+        Reason::Held => held(writer, start, end),
     }
 }
 
-pub(crate) fn handed(start: usize, end: usize, out: &mut [u8]) -> usize
-    ensures { gave result out.new ≡ put_of out.old 0 (run_handed start end) }
+pub(crate) fn handed(writer: &mut Writer, start: usize, end: usize)
+    ensures { Puts writer.old writer.new (run_handed start end) }
 {
-    let next = subject(
+    subject(
+        writer,
         start,
         end,
         b" was handed out: ",
         b" were handed out: ",
-        out,
-        0,
     );
     counted(
-        minus(end, start) / 512,
+        writer,
+        end.saturating_sub(start) / 512,
         b" frame\n",
         b" frames\n",
-        out,
-        next,
-    )
+    );
 }
 
+// Byte k of the sync at a place is wrong.
 pub(crate) fn skipped(
+    writer: &mut Writer,
+    input: &[u8],
     start: usize,
     end: usize,
-    k: u8,
     sync: usize,
-    value: u8,
-    out: &mut [u8],
-) -> usize
-    ensures { gave result out.new ≡ put_of out.old 0 (run_skipped start end k sync value) }
+    k: u8,
+)
+    ensures { Puts writer.old writer.new (run_skipped start end k sync (get_or input.now (sync + k) 0)) }
 {
-    let named = subject(
+    subject(
+        writer,
         start,
         end,
         b" was skipped: byte ",
         b" were skipped, the first because byte ",
-        out,
-        0,
     );
-    let nth = text::number(out, named, k as u64);
-    let which = labelled(out, nth, b" of the sync at byte ", sync);
-    wrong(value, out, which)
+    writer.number(u64::from(k));
+    labelled(writer, b" of the sync at byte ", sync);
+    wrong(writer, byte_after(input, sync, usize::from(k)));
 }
 
-pub(crate) fn held(start: usize, end: usize, out: &mut [u8]) -> usize
-    ensures { gave result out.new ≡ put_of out.old 0 (run_held start end) }
+pub(crate) fn held(writer: &mut Writer, start: usize, end: usize)
+    ensures { Puts writer.old writer.new (run_held start end) }
 {
     subject(
+        writer,
         start,
         end,
         b" is still held\n",
         b" are still held\n",
-        out,
-        0,
-    )
+    );
 }

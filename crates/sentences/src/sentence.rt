@@ -1,61 +1,73 @@
 // The sentence about a place.
-ghost use Rattle.std.specs.Prelude.{◌≡◌};
-ghost use Rattle.text.specs.Put.{gave, put_of};
+ghost use Rattle.std.specs.Prelude.{◌≡◌, ◌+◌, ◌≤◌, get_or};
+ghost use Rattle.text.specs.Put.{gave, put_of, Puts};
 ghost use Rattle.sentences.specs.Sentence.{sentence_of, inside_text, skipped_text, held_text};
 
-use crate::parts::{byte_after, labelled, minus, wrong};
+use crate::parts::{byte_after, labelled, wrong};
+use text::Writer;
 use why::Reason;
 
 pub fn sentence(input: &[u8], place: usize, reason: Reason, out: &mut [u8], at: usize) -> usize
     ensures { gave result out.new ≡ put_of out.old at (sentence_of input.now place reason) }
 {
+    let mut writer = Writer { out, at };
+    said(&mut writer, input, place, reason);
+    writer.at
+}
+
+pub(crate) fn said(writer: &mut Writer, input: &[u8], place: usize, reason: Reason)
+    ensures { Puts writer.old writer.new (sentence_of input.now place reason) }
+{
     match reason {
-        Reason::NotGiven => at,
-        Reason::Inside(q) => inside(place, q, out, at),
-        Reason::Near(k) => {
-            let value = byte_after(input, place, k as usize);
-            skipped(place, k, b" of the sync there", value, out, at)
-        }
-        Reason::Far(k) => {
-            let value = byte_after(input, place, 512 + k as usize);
-            skipped(place, k, b" of the sync 512 bytes later", value, out, at)
-        }
-        Reason::Held => held(place, out, at),
+        Reason::NotGiven => {}
+        Reason::Inside(q) => inside(writer, place, q),
+        Reason::Near(k) => skipped(writer, input, place, 0, k, b" of the sync there"),
+        Reason::Far(k) => skipped(
+            writer,
+            input,
+            place,
+            512,
+            k,
+            b" of the sync 512 bytes later",
+        ),
+        Reason::Held => held(writer, place),
     }
 }
 
-pub(crate) fn inside(place: usize, q: usize, out: &mut [u8], at: usize) -> usize
-    ensures { gave result out.new ≡ put_of out.old at (inside_text place q) }
+pub(crate) fn inside(writer: &mut Writer, place: usize, q: usize)
+    ensures { Puts writer.old writer.new (inside_text place q) }
 {
-    let named = labelled(out, at, b"byte ", place);
-    let nth = labelled(out, named, b" was handed out: it is byte ", minus(place, q));
-    let frame = labelled(out, nth, b" of the frame that begins at byte ", q);
-    text::byte(out, frame, b'\n')
+    labelled(writer, b"byte ", place);
+    labelled(
+        writer,
+        b" was handed out: it is byte ",
+        place.saturating_sub(q),
+    );
+    labelled(writer, b" of the frame that begins at byte ", q);
+    writer.byte(b'\n');
 }
 
+// Byte k of the sync so far ahead of the place is wrong.
 pub(crate) fn skipped(
+    writer: &mut Writer,
+    input: &[u8],
     place: usize,
+    ahead: usize,
     k: u8,
     sync: &[u8],
-    value: u8,
-    out: &mut [u8],
-    at: usize,
-) -> usize
-    ensures { gave result out.new ≡ put_of out.old at (skipped_text place k sync.now value) }
+)
+    requires { ahead ≤ 512 }
+    ensures { Puts writer.old writer.new (skipped_text place k sync.now (get_or input.now (place + (ahead + k)) 0)) }
 {
-    let named = labelled(out, at, b"byte ", place);
-    let nth = labelled(out, named, b" was skipped: byte ", k as usize);
-    let which = text::put(out, nth, sync);
-    wrong(value, out, which)
+    labelled(writer, b"byte ", place);
+    labelled(writer, b" was skipped: byte ", usize::from(k));
+    writer.put(sync);
+    wrong(writer, byte_after(input, place, ahead + usize::from(k)));
 }
 
-pub(crate) fn held(place: usize, out: &mut [u8], at: usize) -> usize
-    ensures { gave result out.new ≡ put_of out.old at (held_text place) }
+pub(crate) fn held(writer: &mut Writer, place: usize)
+    ensures { Puts writer.old writer.new (held_text place) }
 {
-    let named = labelled(out, at, b"byte ", place);
-    text::put(
-        out,
-        named,
-        b" is still held: where the reading stopped, fewer than 515 bytes remain\n",
-    )
+    labelled(writer, b"byte ", place);
+    writer.put(b" is still held: where the reading stopped, fewer than 515 bytes remain\n");
 }

@@ -1,7 +1,5 @@
 -- `lines` meets its contract: each turn puts one frame's line more, or nothing is written. Assumes nothing.
-use mathlib.Core.Path.{refl}
 use native.Mathlib.Omega.{arith}
-use Rattle.text.proofs.Puts.{put_length}
 use Rattle.framed.proofs.Laying.{no_lines, line_more, too_many, too_few, no_room, lines_end}
 use Rattle.framed.proofs.lines.Goals as goal
 
@@ -15,15 +13,11 @@ pub returns-then-out-count : goal.returns-then-out-count
 returns-then-out-count c = no_room _ _ _ (omega arith) c.if-frames-count.false c.if-out-count.true
 
 pub loop-t-init : goal.loop-t-init
-loop-t-init c = (omega arith, refl, no_lines _ _)
+loop-t-init c = no_lines _ _
 
 pub loop-t-preserved : goal.loop-t-preserved
-loop-t-preserved c =
-    let inv = c.loop-t.invariant in
-    let one_more = line_more _ _ _ inv.2 _ (omega arith) (omega arith) c.line.ensures in
-    (omega arith, put_length _ _ one_more, one_more)
+loop-t-preserved c = line_more _ _ _ c.loop-t.invariant _ (omega arith) (omega arith) c.line.ensures
 
 pub returns : goal.returns
 returns c =
-    let inv = c.loop-t.invariant in
-    lines_end _ _ _ (omega arith) c.if-frames-count.false _ c.if-out-count.false (omega arith) inv.0 inv.2
+    lines_end _ _ _ (omega arith) c.if-frames-count.false _ c.if-out-count.false (omega arith) (omega arith) c.loop-t.invariant

@@ -1,5 +1,7 @@
 -- `run_line` meets its contract: refused, or the line. Assumes nothing.
 use mathlib.Core.Path.{sym, ◌∙◌}
+use Rattle.std.proofs.Common.{rules}
+use Rattle.text.proofs.Puts.{handed_back}
 use Rattle.sentences.proofs.Calls.{run_short, run_none, run-whole}
 use Rattle.sentences.proofs.run_line.Goals as goal
 
@@ -11,4 +13,4 @@ returns-then-no_run c = run_none _ _ _ _ c.if-out-lt-LINE.false (sym c.no_run.en
 
 pub returns : goal.returns
 returns c =
-    run-whole _ _ _ _ c.if-out-lt-LINE.false (sym c.no_run.ensures ∙ c.if-no_run.false) c.run.ensures
+    run-whole _ _ _ _ c.if-out-lt-LINE.false (sym c.no_run.ensures ∙ c.if-no_run.false) (handed_back c.run.ensures (search rules))

@@ -1,6 +1,7 @@
--- `sentence::sentence` meets its contract: a sentence for each reason. Assumes nothing.
-use Rattle.text.proofs.Puts.{put_nothing}
+-- `sentence::sentence` meets its contract: what is said, from the place on. Assumes nothing.
+use Rattle.std.proofs.Common.{rules}
+use Rattle.text.proofs.Puts.{handed_back}
 use Rattle.sentences.proofs.sentence.sentence.Goals as goal
 
-pub returns-in-NotGiven : goal.returns-in-NotGiven
-returns-in-NotGiven c = rw c.in-NotGiven.is (put_nothing _ _)
+pub returns : goal.returns
+returns c = handed_back c.said.ensures (search rules)
