@@ -1,6 +1,8 @@
 -- The status record as 26 cells, in the order of its fields. Assumes nothing.
-use Rattle.std.specs.Prelude.{ℕ, ◌≤◌, cond, List, [], ◌∷◌, leb, length, get_or}
-use Rattle.cells.specs.Cells.{flag, number, cell_of}
+use Rattle.std.specs.Prelude.{ℕ, ◌≤◌, cond, List, [], ◌∷◌, leb, length, get_or, Result, Ok, Err}
+use Rattle.wire.specs.declared.Refusal.{Refusal}
+use Rattle.wire.specs.declared.Refusal.TheVariants.{BadState}
+use Rattle.cells.specs.Cells.{within, flag, number, cell_of}
 use Rattle.radio_status.specs.Record.{fresh_status}
 use Rattle.radio_status.specs.declared.record.Status.{Status}
 
@@ -46,6 +48,10 @@ status_cells s =
 -- the record that the first cells are; too few of them give a fresh one
 unfoldable pub status_in : List ℕ → Status
 status_in cs = cond (leb 26 (length cs)) (status_of cs) fresh_status
+
+-- the record that the cells are, where they can be one's
+unfoldable pub status_from : List ℕ → Result Status Refusal
+status_from cs = cond (within status_most cs) (Ok (status_of cs)) (Err BadState)
 
 -- T-08, as a caller sees it: none of the six levels among the cells is above 4,095
 pub record LeveledCells (cs : List ℕ) : Type 0 where

@@ -1,32 +1,45 @@
 // The status record as 26 cells, in the order of its fields.
 //
-// What is public here serves the calls of other rooms, and has no `requires`: too few cells give a fresh record.
-ghost use Rattle.std.specs.Prelude.{◌≡◌, ◌≤◌, length};
-ghost use Rattle.radio_door.specs.Status.{status_of, status_in, status_cells};
+// What is public here serves the calls of other rooms, and has no `requires`: cells that can be no record are refused, or
+// give a fresh one.
+ghost use Rattle.std.specs.Prelude.{◌≡◌};
+ghost use Rattle.radio_door.specs.Status.{status_of, status_from, status_in, status_cells};
 
+use cells::within;
 use radio_status::record::{
     ForwardLevels, Inputs, Overflow, ReverseLevels, Status, SupplyLevels, Versions,
 };
+use wire::Refusal;
 
 // The most that each cell can hold.
-pub const MOST: [u32; 26] = [
+const MOST: [u32; 26] = [
     1, 1, 1, 1, 1, 1, 1, 1, 1, 1, 1, 1, 1, 255, 255, 255, 65535, 65535, 65535, 65535, 65535, 65535,
     255, 255, 255, 255,
 ];
 
+// The record that the cells are, or BAD_STATE where they can be none.
+#[tactic(auto, using(crate::proofs::StatusCases::from_bad, crate::proofs::StatusCases::from_good))]
+pub fn status_from(cells: &[u32]) -> Result<Status, Refusal>
+    ensures { result ≡ status_from cells.now }
+{
+    if !within(&MOST, cells) {
+        return Err(Refusal::BadState);
+    }
+    Ok(status_in(cells))
+}
+
 // The record that the cells are; too few of them give a fresh one.
-#[tactic(auto, using(crate::proofs::StatusCases::status_few, crate::proofs::StatusCases::status_held))]
+#[tactic(auto, using(crate::proofs::StatusCases::status_few, crate::proofs::StatusCases::status_first))]
 pub fn status_in(cells: &[u32]) -> Status
     ensures { result ≡ status_in cells.now }
 {
-    if cells.len() < 26 {
+    let Some(cells) = cells.first_chunk::<26>() else {
         return Status::fresh();
-    }
+    };
     status_of(cells)
 }
 
-pub(crate) fn status_of(cells: &[u32]) -> Status
-    requires { 26 ≤ length cells.now }
+pub(crate) fn status_of(cells: &[u32; 26]) -> Status
     ensures { result ≡ status_of cells.now }
 {
     let overflow = overflow_of(cells);
@@ -48,8 +61,7 @@ pub(crate) fn status_of(cells: &[u32]) -> Status
     }
 }
 
-pub(crate) fn overflow_of(cells: &[u32]) -> Overflow
-    requires { 26 ≤ length cells.now }
+pub(crate) fn overflow_of(cells: &[u32; 26]) -> Overflow
     ensures { result ≡ (status_of cells.now).overflow }
 {
     Overflow {
@@ -60,8 +72,7 @@ pub(crate) fn overflow_of(cells: &[u32]) -> Overflow
     }
 }
 
-pub(crate) fn inputs_of(cells: &[u32]) -> Inputs
-    requires { 26 ≤ length cells.now }
+pub(crate) fn inputs_of(cells: &[u32; 26]) -> Inputs
     ensures { result ≡ (status_of cells.now).inputs }
 {
     Inputs {
@@ -77,8 +88,7 @@ pub(crate) fn inputs_of(cells: &[u32]) -> Inputs
     }
 }
 
-pub(crate) fn forward_of(cells: &[u32]) -> ForwardLevels
-    requires { 26 ≤ length cells.now }
+pub(crate) fn forward_of(cells: &[u32; 26]) -> ForwardLevels
     ensures { result ≡ (status_of cells.now).forward }
 {
     ForwardLevels {
@@ -87,8 +97,7 @@ pub(crate) fn forward_of(cells: &[u32]) -> ForwardLevels
     }
 }
 
-pub(crate) fn reverse_of(cells: &[u32]) -> ReverseLevels
-    requires { 26 ≤ length cells.now }
+pub(crate) fn reverse_of(cells: &[u32; 26]) -> ReverseLevels
     ensures { result ≡ (status_of cells.now).reverse }
 {
     ReverseLevels {
@@ -97,8 +106,7 @@ pub(crate) fn reverse_of(cells: &[u32]) -> ReverseLevels
     }
 }
 
-pub(crate) fn supply_of(cells: &[u32]) -> SupplyLevels
-    requires { 26 ≤ length cells.now }
+pub(crate) fn supply_of(cells: &[u32; 26]) -> SupplyLevels
     ensures { result ≡ (status_of cells.now).supply }
 {
     SupplyLevels {
@@ -107,8 +115,7 @@ pub(crate) fn supply_of(cells: &[u32]) -> SupplyLevels
     }
 }
 
-pub(crate) fn versions_of(cells: &[u32]) -> Versions
-    requires { 26 ≤ length cells.now }
+pub(crate) fn versions_of(cells: &[u32; 26]) -> Versions
     ensures { result ≡ (status_of cells.now).versions }
 {
     Versions {
