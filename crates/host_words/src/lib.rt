@@ -29,41 +29,25 @@ pub fn reserved(c: Control) -> Answer
 }
 
 // The record after an accepted frame: what its word carries, and MOX.
-pub fn next(c: Control, host: Host) -> Host
+pub fn next(c: Control, mut host: Host) -> Host
     ensures { result ≡ after c host }
 {
     let address = c.c0 / 2 % 128;
-    let host = Host {
-        mox: c.c0 % 2 == 1,
-        ..host
-    };
+    host.mox = c.c0 % 2 == 1;
     match address {
-        0 => settings(c, host),
-        1 => Host {
-            transmitter: hertz(c),
-            ..host
-        },
-        2..=8 => {
-            let mut frequencies = host.frequencies;
-            frequencies[(address - 2) as usize] = hertz(c);
-            Host {
-                frequencies,
-                ..host
-            }
+        0 => host = settings(c, host),
+        1 => host.transmitter = hertz(c),
+        2..=8 => host.frequencies[(address - 2) as usize] = hertz(c),
+        9 => {
+            host.drive = c.c1;
+            host.controls = controls_of(c.c2);
+            host.highpass = highpass_of(c.c3);
+            host.lowpass = lowpass_of(c.c4);
         }
-        9 => Host {
-            drive: c.c1,
-            controls: controls_of(c.c2),
-            highpass: highpass_of(c.c3),
-            lowpass: lowpass_of(c.c4),
-            ..host
-        },
-        10 => Host {
-            front: front_of(c),
-            ..host
-        },
-        11..=255 => host,
+        10 => host.front = front_of(c),
+        11..=255 => {}
     }
+    host
 }
 
 // What word 0 carries. MOX is as it was.

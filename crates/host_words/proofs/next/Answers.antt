@@ -8,7 +8,7 @@ use Rattle.host_words.proofs.next.Goals as goal
 
 pub returns-in-0 : goal.returns-in-0
 unfolding heard
-returns-in-0 c = rw (c.in-0.is, c.settings.ensures, on-low c.args.c.c0)
+returns-in-0 c = rw (c.in-0.is, c.settings-host.ensures, on-low c.args.c.c0)
 
 pub returns-in-1 : goal.returns-in-1
 unfolding heard
@@ -16,11 +16,11 @@ returns-in-1 c = rw (c.in-1.is, c.hertz.ensures, on-low c.args.c.c0)
 
 pub returns-in-9 : goal.returns-in-9
 unfolding heard
-returns-in-9 c = rw (c.in-9.is, c.controls_of.ensures, c.highpass_of.ensures, c.lowpass_of.ensures, on-low c.args.c.c0)
+returns-in-9 c = rw (c.in-9.is, c.controls_of-host.ensures, c.highpass_of-host.ensures, c.lowpass_of-host.ensures, on-low c.args.c.c0)
 
 pub returns-in-10 : goal.returns-in-10
 unfolding heard
-returns-in-10 c = rw (c.in-10.is, c.front_of.ensures, on-low c.args.c.c0)
+returns-in-10 c = rw (c.in-10.is, c.front_of-host.ensures, on-low c.args.c.c0)
 
 pub returns-in-2-to-8 : goal.returns-in-2-to-8
 unfolding heard
@@ -31,9 +31,9 @@ returns-in-2-to-8 c =
     let other = tests a above (omega arith) (omega arith) in
     rw (c.hertz-in-2-to-8.ensures, on-low c.args.c.c0, other.settings, other.transmitter, other.switches, other.front, receiver-tunes a above below)
 
-pub returns-in-11-to-255 : goal.returns-in-11-to-255
+pub returns-else-address-lt9 : goal.returns-else-address-lt9
 unfolding heard
-returns-in-11-to-255 c =
+returns-else-address-lt9 c =
     let a = address c.args.c in
     let above : 11 ≤ a = omega arith in
     let other = tests a (omega arith) (omega arith) (omega arith) in
