@@ -1,5 +1,4 @@
 -- What is proved of the host record and the builder from cells.
-pub mod Codes
 pub mod InTwo
 pub mod Cases
 pub mod Faithful

@@ -12,9 +12,14 @@ use Rattle.host_record.specs.declared.choices.Jack.{Jack}
 use Rattle.host_record.specs.declared.record.LowPass.{LowPass}
 use Rattle.host_record.specs.declared.choices.Relay.{Relay}
 use Rattle.host_record.specs.declared.choices.Source10.{Source10}
+use Rattle.host_record.specs.declared.choices.Antenna.{Antenna}
+use Rattle.host_record.specs.declared.choices.Attenuator.{Attenuator}
+use Rattle.host_record.specs.declared.choices.Boards.{Boards}
+use Rattle.host_record.specs.declared.choices.Microphone.{Microphone}
+use Rattle.host_record.specs.declared.choices.Source122.{Source122}
+use Rattle.host_record.specs.declared.choices.Speed.{Speed}
 use Rattle.cells.specs.Cells.{flag, number}
 use Rattle.host_cells.specs.Host.{host_count}
-use Rattle.host_from_cells.specs.declared.choices.Choices.{Choices}
 
 -- the most that a frequency can be
 abbrev pub any : ℕ
@@ -66,6 +71,18 @@ front_of cs jack =
       c3 = number 8 cs 60;
       c4 = number 8 cs 61;
     }
+
+-- the named choices
+pub record Choices : Type 0 where
+  pub speed : Speed
+  pub source10 : Source10
+  pub source122 : Source122
+  pub boards : Boards
+  pub microphone : Microphone
+  pub attenuator : Attenuator
+  pub antenna : Antenna
+  pub relay : Relay
+  pub jack : Jack
 
 abbrev pub choices_of : List ℕ → Choices
 choices_of cs =

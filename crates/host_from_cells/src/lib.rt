@@ -6,17 +6,20 @@
 mod choices;
 mod parts;
 
-ghost use Rattle.std.specs.Prelude.{◌≡◌, ◌≤◌, length};
+ghost use Rattle.std.specs.Prelude.{◌≡◌, ◌≤◌, take};
 ghost use Rattle.cells.specs.Cells.{within};
-ghost use Rattle.host_cells.specs.Host.{host_count};
-ghost use Rattle.host_from_cells.specs.FromCells.{host_most, builder_most, host_with, host_in, builder_in};
+ghost use Rattle.host_from_cells.specs.FromCells.{builder_most, host_most, host_of, host_in, builder_in};
 
-use crate::choices::{Choices, choices_of};
-use crate::parts::{controls_of, front_of, highpass_of, lowpass_of};
+use crate::choices::{relay_of, source10_of};
+use crate::parts::{byte, controls_of, front_of, highpass_of, lowpass_of};
 use cells::within;
 use host::Builder;
 use host_cells::HOST;
-use host_record::record::{Controls, Front, HighPass, Host, LowPass};
+use host_record::choices::{Antenna, Attenuator, Boards, Microphone, Source122, Speed};
+use host_record::record::Host;
+
+// The number of a builder's cells: a host record's, and its turn's.
+const BUILDER: usize = HOST + 1;
 
 // The cells before word 9's: MOX, word 0's and the frequencies.
 const BEFORE_9: usize = 27;
@@ -28,7 +31,7 @@ const MOST_BEFORE_9: [u32; BEFORE_9] = [
     4294967295, 4294967295, 4294967295, 4294967295, 4294967295, 4294967295,
 ];
 
-const MOST_FROM_9: [u32; HOST + 1 - BEFORE_9] = [
+const MOST_FROM_9: [u32; BUILDER - BEFORE_9] = [
     255, 1, 1, 1, 1, 1, 1, 1, 1, 1, 1, 1, 1, 1, 1, 1, 1, 1, 1, 1, 1, 1, 1, 1, 1, 1, 1, 1, 1, 1, 1,
     255, 255, 255, 255, 255,
 ];
@@ -37,102 +40,80 @@ const MOST_FROM_9: [u32; HOST + 1 - BEFORE_9] = [
 pub fn is_host(cells: &[u32]) -> bool
     ensures { result ≡ within host_most cells.now }
 {
-    if within(&MOST_BEFORE_9, cells) {
-        within(&MOST_FROM_9[..HOST - BEFORE_9], &cells[BEFORE_9..])
-    } else {
-        false
-    }
-}
-
-// The record that the cells are; too few of them give a fresh one.
-#[tactic(auto, using(crate::proofs::Cases::host_few))]
-pub fn host_in(cells: &[u32]) -> Host
-    ensures { result ≡ host_in cells.now }
-{
-    if cells.len() < HOST {
-        return Host::fresh();
-    }
-    let chosen = choices_of(cells);
-    let controls = controls_of(cells);
-    let highpass = highpass_of(cells);
-    let lowpass = lowpass_of(cells);
-    let jack = chosen.jack;
-    let front = front_of(cells, jack);
-    host_with(cells, chosen, controls, highpass, lowpass, front)
-}
-
-pub(crate) fn host_with(
-    cells: &[u32],
-    chosen: Choices,
-    controls: Controls,
-    highpass: HighPass,
-    lowpass: LowPass,
-    front: Front,
-) -> Host
-    requires { host_count ≤ length cells.now }
-    ensures { result ≡ host_with cells.now chosen controls highpass lowpass front }
-{
-    let speed = chosen.speed;
-    let source10 = chosen.source10;
-    let source122 = chosen.source122;
-    let boards = chosen.boards;
-    let microphone = chosen.microphone;
-    let attenuator = chosen.attenuator;
-    let antenna = chosen.antenna;
-    let relay = chosen.relay;
-    Host {
-        mox: cells[0] == 1,
-        speed,
-        source10,
-        source122,
-        boards,
-        microphone,
-        classe: cells[6] == 1,
-        outputs: (cells[7] % 256) as u8,
-        attenuator,
-        preamp: cells[9] == 1,
-        dither: cells[10] == 1,
-        random: cells[11] == 1,
-        antenna,
-        rxout: cells[13] == 1,
-        relay,
-        duplex: cells[15] == 1,
-        receivers: (cells[16] % 256) as u8,
-        timestamp: cells[17] == 1,
-        common: cells[18] == 1,
-        transmitter: cells[19],
-        frequencies: [
-            cells[20], cells[21], cells[22], cells[23], cells[24], cells[25], cells[26],
-        ],
-        drive: (cells[27] % 256) as u8,
-        controls,
-        highpass,
-        lowpass,
-        front,
-    }
+    fit::<HOST>(cells)
 }
 
 // Whether the cells can be a builder's.
 pub fn is_builder(cells: &[u32]) -> bool
     ensures { result ≡ within builder_most cells.now }
 {
-    if within(&MOST_BEFORE_9, cells) {
-        within(&MOST_FROM_9, &cells[BEFORE_9..])
-    } else {
-        false
+    fit::<BUILDER>(cells)
+}
+
+// Whether the cells can be a record's of so many, a builder's or its first ones. The count is a constant, so that the table of
+// each is folded into its tests.
+pub(crate) fn fit<const COUNT: usize>(cells: &[u32]) -> bool
+    requires from_9 { BEFORE_9 ≤ COUNT }
+    requires most { COUNT ≤ BUILDER }
+    ensures { result ≡ within (take COUNT builder_most) cells.now }
+{
+    within(&MOST_BEFORE_9, cells) && within(&MOST_FROM_9[..COUNT - BEFORE_9], &cells[BEFORE_9..])
+}
+
+// The record that the cells are; too few of them give a fresh one.
+pub fn host_in(cells: &[u32]) -> Host
+    ensures { result ≡ host_in cells.now }
+{
+    match cells.first_chunk() {
+        Some(cells) => host_of(cells),
+        None => Host::fresh(),
+    }
+}
+
+pub(crate) fn host_of(cells: &[u32; HOST]) -> Host
+    ensures { result ≡ host_of cells.now }
+{
+    Host {
+        mox: cells[0] == 1,
+        speed: Speed::from(byte(cells[1])),
+        source10: source10_of(cells[2]),
+        source122: Source122::from(byte(cells[3])),
+        boards: Boards::from(byte(cells[4])),
+        microphone: Microphone::from(byte(cells[5])),
+        classe: cells[6] == 1,
+        outputs: byte(cells[7]),
+        attenuator: Attenuator::from(byte(cells[8])),
+        preamp: cells[9] == 1,
+        dither: cells[10] == 1,
+        random: cells[11] == 1,
+        antenna: Antenna::from(byte(cells[12])),
+        rxout: cells[13] == 1,
+        relay: relay_of(cells[14]),
+        duplex: cells[15] == 1,
+        receivers: byte(cells[16]),
+        timestamp: cells[17] == 1,
+        common: cells[18] == 1,
+        transmitter: cells[19],
+        frequencies: [
+            cells[20], cells[21], cells[22], cells[23], cells[24], cells[25], cells[26],
+        ],
+        drive: byte(cells[27]),
+        controls: controls_of(cells),
+        highpass: highpass_of(cells),
+        lowpass: lowpass_of(cells),
+        front: front_of(cells),
     }
 }
 
 // The builder that the cells are; too few of them give a fresh one.
-#[tactic(auto, using(crate::proofs::Cases::builder_few))]
 pub fn builder_in(cells: &[u32]) -> Builder
     ensures { result ≡ builder_in cells.now }
 {
-    if cells.len() < HOST + 1 {
-        return Builder::fresh();
-    }
-    Builder {
-        host: host_in(cells),
-        turn: (cells[HOST] % 256) as u8,
+    match cells.get(HOST) {
+        Some(turn) => Builder {
+            host: host_in(cells),
+            turn: byte(*turn),
+        },
+        None => Builder::fresh(),
     }
 }

@@ -1,13 +1,21 @@
 // The parts of words 9 and 10 from their cells.
-ghost use Rattle.std.specs.Prelude.{◌≡◌, ◌≤◌, length};
-ghost use Rattle.host_cells.specs.Host.{host_count};
+ghost use Rattle.std.specs.Prelude.{◌≡◌, ◌%◌, ◌^◌};
+ghost use Rattle.host_record.specs.Choices.{jack_of};
+ghost use Rattle.cells.specs.Cells.{number};
 ghost use Rattle.host_from_cells.specs.FromCells.{controls_of, highpass_of, lowpass_of, front_of};
 
+use host_cells::HOST;
 use host_record::choices::Jack;
 use host_record::record::{Controls, Front, HighPass, LowPass};
 
-pub(crate) fn controls_of(cells: &[u32]) -> Controls
-    requires { host_count ≤ length cells.now }
+// A number of eight bits; the cells have been tested, so that it is the cell's.
+pub(crate) fn byte(cell: u32) -> u8
+    ensures { result ≡ cell % 2 ^ 8 }
+{
+    (cell % 256) as u8
+}
+
+pub(crate) fn controls_of(cells: &[u32; HOST]) -> Controls
     ensures { result ≡ controls_of cells.now }
 {
     Controls {
@@ -22,8 +30,7 @@ pub(crate) fn controls_of(cells: &[u32]) -> Controls
     }
 }
 
-pub(crate) fn highpass_of(cells: &[u32]) -> HighPass
-    requires { host_count ≤ length cells.now }
+pub(crate) fn highpass_of(cells: &[u32; HOST]) -> HighPass
     ensures { result ≡ highpass_of cells.now }
 {
     HighPass {
@@ -38,8 +45,7 @@ pub(crate) fn highpass_of(cells: &[u32]) -> HighPass
     }
 }
 
-pub(crate) fn lowpass_of(cells: &[u32]) -> LowPass
-    requires { host_count ≤ length cells.now }
+pub(crate) fn lowpass_of(cells: &[u32; HOST]) -> LowPass
     ensures { result ≡ lowpass_of cells.now }
 {
     LowPass {
@@ -53,21 +59,20 @@ pub(crate) fn lowpass_of(cells: &[u32]) -> LowPass
     }
 }
 
-pub(crate) fn front_of(cells: &[u32], jack: Jack) -> Front
-    requires { host_count ≤ length cells.now }
-    ensures { result ≡ front_of cells.now jack }
+pub(crate) fn front_of(cells: &[u32; HOST]) -> Front
+    ensures { result ≡ front_of cells.now (jack_of (number 8 cells.now 55)) }
 {
     Front {
         preamp1: cells[51] == 1,
         preamp2: cells[52] == 1,
         preamp3: cells[53] == 1,
         preamp4: cells[54] == 1,
-        jack,
+        jack: Jack::from(byte(cells[55])),
         bias: cells[56] == 1,
         pttdisabled: cells[57] == 1,
-        gain: (cells[58] % 256) as u8,
-        c2top: (cells[59] % 256) as u8,
-        c3: (cells[60] % 256) as u8,
-        c4: (cells[61] % 256) as u8,
+        gain: byte(cells[58]),
+        c2top: byte(cells[59]),
+        c3: byte(cells[60]),
+        c4: byte(cells[61]),
     }
 }

@@ -1,16 +1,14 @@
--- `host_from_cells::host_in` meets its contract: too few cells, or the record of its parts. Assumes nothing.
+-- `host_from_cells::host_in` meets its contract: the record of the first cells, or too few of them. Assumes nothing.
 use mathlib.Core.Path.{sym, ap, ◌∙◌}
-use Rattle.host_from_cells.specs.FromCells.{front_of, host_with}
-use Rattle.host_from_cells.specs.declared.choices.Choices.{Choices}
-use Rattle.host_from_cells.proofs.Cases.{host_held}
-use native.Mathlib.Omega.{arith}
+use Rattle.host_from_cells.specs.FromCells.{host_of}
+use Rattle.host_from_cells.proofs.Cases.{host_of_first, host_few, host_held}
 use Rattle.host_from_cells.proofs.host_in.Goals as goal
 
-pub returns : goal.returns
-returns c =
+pub returns-in-Some : goal.returns-in-Some
+returns-in-Some c =
     let cells = c.args.cells.now in
-    let choices = c.choices_of-chosen.ensures in
-    let fronted = c.front_of-front.ensures ∙ ap (λ (k : Choices). front_of cells k.jack) choices in
-    c.host_with.ensures
-    ∙ (λ i. host_with cells (choices i) (c.controls_of-controls.ensures i) (c.highpass_of-highpass.ensures i) (c.lowpass_of-lowpass.ensures i) (fronted i))
-    ∙ sym (host_held cells (omega arith))
+    let chunk = c.in-Some.ensures.cases in
+    c.host_of.ensures ∙ ap host_of chunk.same ∙ host_of_first cells chunk.enough ∙ sym (host_held cells chunk.enough)
+
+pub returns-in-None : goal.returns-in-None
+returns-in-None c = c.fresh.ensures ∙ sym (host_few c.args.cells.now c.in-None.ensures.cases)
