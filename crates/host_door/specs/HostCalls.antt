@@ -1,8 +1,7 @@
 -- Reading and building a host frame through the door: document 01's outcome, with the record as cells and the answer as its number.
 -- Assumes nothing.
 use Rattle.std.specs.Prelude.{ℕ, cond, List, ℤ, set}
-use Rattle.wire.specs.Answers.{number_of, told, accepts}
-use Rattle.wire.specs.declared.Answer.{Answer}
+use Rattle.wire.specs.Answers.{Answer, number_of, told, accepts}
 use Rattle.host.specs.Build as Build
 use Rattle.host.specs.Read as Read
 use Rattle.cells.specs.Cells.{within, got, bad_state, kept}

@@ -1,24 +1,31 @@
 -- `host_door::host_read` meets its contract: cells that are no record, or the read into the record that they are. Assumes nothing.
-use mathlib.Core.Path.{sym, ap, ◌∙◌}
-use Rattle.host.specs.Read.{read_of}
+use mathlib.Core.Path.{◌≡◌, sym, ap, ◌∙◌}
+use lib.Seq.{sets}
+use Rattle.std.proofs.lemmas.Result.{err_from_is_err_and}
+use Rattle.std.specs.Prelude.{Ok}
+use Rattle.cells.specs.Cells.{returned_by, put_over}
+use Rattle.cells.proofs.Cases.{enough, put_is, put_first}
+use Rattle.host_cells.specs.Host.{host_cells}
 use Rattle.host_from_cells.specs.FromCells.{host_most}
-use Rattle.host_door.specs.HostCalls.{gave, shown}
-use Rattle.cells.proofs.Cases.{enough}
-use Rattle.host_from_cells.proofs.Cases.{host_held}
-use Rattle.host_door.proofs.HostCases.{read_bad, read_good}
+use Rattle.host_door.specs.HostCalls.{gave}
+use Rattle.host_door.proofs.HostCases.{read_bad, read-refused, read_accepted}
 use Rattle.host_door.proofs.host_read.Goals as goal
 
 pub returns-then-not-is_host : goal.returns-then-not-is_host
 returns-then-not-is_host c = sym (read_bad _ _ _ (sym c.is_host.ensures ∙ c.if-not-is_host.true))
 
-pub keep-requires : goal.keep-requires
-keep-requires c = enough host_most c.args.host.now (sym c.is_host.ensures ∙ c.if-not-is_host.false)
+pub returns-in_err-reading : goal.returns-in_err-reading
+returns-in_err-reading c =
+    let good = sym c.is_host.ensures ∙ c.if-not-is_host.false in
+    let p = err_from_is_err_and c.from_residual.result c.from_residual.ensures.1 in
+    rw (p.1, p.2) (read-refused _ _ _ good c.host_in.ensures _ _ c.in_err-reading.ensures)
 
 pub returns : goal.returns
 returns c =
-    let given = c.args in
-    let fits = sym c.is_host.ensures ∙ c.if-not-is_host.false in
-    (λ i. gave (c.keep.ensures.value i) (c.keep.ensures.cells_after i) c.read-reading.new.audio)
-    ∙ ap (shown given.host.now) c.read-reading.ensures
-    ∙ ap (λ h. shown given.host.now (read_of given.frame.now given.audio.now h)) (c.host_in-given.ensures ∙ host_held given.host.now (enough host_most given.host.now fits))
-    ∙ sym (read_good _ _ _ fits)
+    let cells = c.args.host.now in
+    let good = sym c.is_host.ensures ∙ c.if-not-is_host.false in
+    let reading = c.in_ok-reading.reading in
+    let kept : c.put.new.to ≡ sets cells 0 (host_cells reading.host) =
+    c.put.ensures ∙ put_is cells 0 _ ∙ ap (put_over cells 0) c.host_cells.ensures ∙ put_first cells (host_cells reading.host) (enough host_most cells good) in
+    ap (λ l. gave (returned_by (Ok reading.address)) l c.read.new.audio) kept
+    ∙ read_accepted _ _ _ good c.host_in.ensures reading c.read.new.audio c.in_ok-reading.ensures
