@@ -6,182 +6,120 @@
 // line that says so on standard error.
 #![tactic(auto)]
 
-ghost use Rattle.std.specs.Prelude.{◌≡◌, true, false, ◌≤◌, length, take};
+mod rows;
+
+ghost use Rattle.std.specs.Prelude.{◌≡◌, OnOk, IfOk, IfErr, IfSome, IfNone};
 ghost use Rattle.std.specs.Io.KnownBytes.{Appends};
-ghost use Rattle.text.specs.Put.{gave};
 ghost use Rattle.hexline.specs.Reader.{end_of};
 ghost use Rattle.hexline.specs.Text.{chunk_of, found_by};
-ghost use Rattle.listing.specs.Buffer.{Room, buffer_after, written_by};
-ghost use Rattle.listing.specs.Chunk.{buffer, Lists, ListsOn};
+ghost use Rattle.listing.specs.Buffer.{buffer_after, written_by};
+ghost use Rattle.listing.specs.Chunk.{buffer, Lists, ListsOn, EndsOn};
 
-use hexline::print::ROW;
-use hexline::{Reader, Taken};
+use hexline::Reader;
+use rows::Rows;
 use std::io::{Read, Write};
 
-// What goes from one chunk to the next: the reader of lines, how many bytes of the output buffer are
-// rows that wait to be written, and whether there is more to do.
+// Why a listing is not whole.
 #[derive(Clone, Copy)]
-struct Listing {
-    reader: Reader,
-    waiting: usize,
-    going: bool,
+pub(crate) enum Failure {
+    Input,
+    Output,
 }
 
 fn main(rt: HostRuntime) {
     let mut chunk = [0u8; 65536];
-    let mut out = [0u8; 65536];
-    list(
-        &mut rt.stdin(),
-        &mut rt.stdout(),
-        &mut rt.stderr(),
-        &mut chunk,
-        &mut out,
-    );
+    let mut rows = Rows {
+        output: rt.stdout(),
+        out: [0u8; 65536],
+        waiting: 0,
+    };
+    list(&mut rt.stdin(), &mut rt.stderr(), &mut chunk, &mut rows);
 }
 
-// A proved loop has to end, and nothing says that an input does. So the reads are counted down, from
-// a number that no run uses up.
-fn list(
+// The rows that wait are written in the end, also where the input could not be read to its end.
+fn list<W: Write>(
     input: &mut impl Read,
-    output: &mut impl Write,
     errors: &mut impl Write,
     chunk: &mut [u8],
-    out: &mut [u8],
-)
-    requires { 64 ≤ length out.old }
-{
-    let mut listing = Listing {
-        reader: Reader::fresh(),
-        waiting: 0,
-        going: true,
-    };
-    let mut reads = u64::MAX;
-    while reads > 0 && listing.going {
-        listing = list_some(input, output, errors, listing, chunk, out);
-        reads -= 1;
+    rows: &mut Rows<W>,
+) {
+    if let Err(failure) = list_all(input, chunk, rows) {
+        complain(errors, failure);
     }
-    write(output, errors, out, listing.waiting);
+    if let Err(failure) = rows.write() {
+        complain(errors, failure);
+    }
 }
 
-// One read, and the rows of the lines that end in what it gives.
+// A proved loop has to end, and nothing says that an input does. So the reads are counted, up to a
+// number that no run comes to.
+fn list_all<W: Write>(
+    input: &mut impl Read,
+    chunk: &mut [u8],
+    rows: &mut Rows<W>,
+) -> Result<(), Failure> {
+    let mut reader = Reader::fresh();
+    for _ in 0..u64::MAX {
+        match list_some(input, reader, chunk, rows)? {
+            Some(next) => reader = next,
+            None => return Ok(()),
+        }
+    }
+    Ok(())
+}
+
+// One read, and the rows of the lines that end in what it gives. None is the end of the input.
 fn list_some<R: Read, W: Write>(
     input: &mut R,
-    output: &mut W,
-    errors: &mut impl Write,
-    listing: Listing,
+    reader: Reader,
     chunk: &mut [u8],
-    out: &mut [u8],
-) -> Listing
-    requires { Room (buffer listing out.old) }
-    ensures room { Room (buffer result out.new) }
-    ensures lists_on { result.going ≡ true → ListsOn (R.remaining input.old) (R.remaining input.new) (W.contents output.old) (W.contents output.new) listing chunk.new out.old result out.new }
+    rows: &mut Rows<W>,
+) -> Result<Option<Reader>, Failure>
+    ensures unread { result ≡ Err Failure.Input → buffer rows.new ≡ buffer rows.old }
+    ensures ends { IfOk result (λ next. IfNone next (EndsOn (W.contents rows.old.output) (W.contents rows.new.output) reader (buffer rows.old) (buffer rows.new))) }
+    ensures lists_on { IfOk result (λ next. IfSome next (λ on. ListsOn (R.remaining input.old) (R.remaining input.new) (W.contents rows.old.output) (W.contents rows.new.output) reader (buffer rows.old) chunk.new on (buffer rows.new))) }
 {
     match input.read(chunk) {
-        Err(_) => {
-            say(errors, b"listing: the input cannot be read\n");
-            stopped(listing)
+        Err(_) => Err(Failure::Input),
+        Ok(0) => {
+            list_end(reader, rows)?;
+            Ok(None)
         }
-        Ok(0) => list_end(output, errors, listing, out),
-        Ok(n) => list_chunk(output, errors, listing, &chunk[..n], out),
+        Ok(n) => Ok(Some(list_chunk(reader, &chunk[..n], rows)?)),
     }
 }
 
 // The row of a last line without a newline.
-fn list_end(
-    output: &mut impl Write,
-    errors: &mut impl Write,
-    listing: Listing,
-    out: &mut [u8],
-) -> Listing
-    requires { Room (buffer listing out.old) }
-    ensures room { Room (buffer result out.new) }
-    ensures out_after { buffer result out.new ≡ buffer_after (found_by (end_of listing.reader)) (buffer listing out.old) }
-    ensures stops { result.going ≡ false }
+fn list_end<W: Write>(reader: Reader, rows: &mut Rows<W>) -> Result<(), Failure>
+    ensures out_after { buffer rows.new ≡ buffer_after (found_by (end_of reader)) (buffer rows.old) }
+    ensures written { OnOk result (Appends (W.contents rows.old.output) (W.contents rows.new.output) (written_by (found_by (end_of reader)) (buffer rows.old))) }
+    ensures failed { IfErr result (λ e. e ≡ Failure.Output) }
 {
-    let reader = listing.reader;
-    let last = add(output, errors, reader.end(), out, listing.waiting);
-    stopped(last)
+    rows.add(reader.end())
 }
 
 // The rows of the lines that end in a chunk. If a write fails the rest of it is left.
-fn list_chunk<W: Write>(
-    output: &mut W,
-    errors: &mut impl Write,
-    listing: Listing,
-    chunk: &[u8],
-    out: &mut [u8],
-) -> Listing
-    requires { Room (buffer listing out.old) }
-    ensures room { Room (buffer result out.new) }
-    ensures lists { result.going ≡ true → Lists listing out.old (chunk_of listing.reader chunk.now) result out.new }
-    ensures written { result.going ≡ true → Appends (W.contents output.old) (W.contents output.new) (written_by (chunk_of listing.reader chunk.now).found (buffer listing out.old)) }
+fn list_chunk<W: Write>(reader: Reader, chunk: &[u8], rows: &mut Rows<W>) -> Result<Reader, Failure>
+    ensures lists { IfOk result (λ next. Lists (buffer rows.old) (chunk_of reader chunk.now) next (buffer rows.new)) }
+    ensures written { OnOk result (Appends (W.contents rows.old.output) (W.contents rows.new.output) (written_by (chunk_of reader chunk.now).found (buffer rows.old))) }
+    ensures failed { IfErr result (λ e. e ≡ Failure.Output) }
 {
-    let mut next = listing;
-    let mut at = 0;
-    while at < chunk.len() {
-        if !next.going {
-            return next;
-        }
-        let reader = next.reader;
-        let taken = reader.take(&chunk[at..]);
-        at += taken.used;
-        next = add(output, errors, taken, out, next.waiting);
+    let mut next = reader;
+    let mut rest = chunk;
+    while !rest.is_empty() {
+        let taken = next.take(rest);
+        next = taken.reader;
+        rest = &rest[taken.used..];
+        rows.add(taken)?;
     }
-    next
+    Ok(next)
 }
 
-// The row of the line that ended, if one did, goes after the rows that wait. Where there is no room
-// for another they are all written.
-fn add<W: Write>(
-    output: &mut W,
-    errors: &mut impl Write,
-    taken: Taken,
-    out: &mut [u8],
-    waiting: usize,
-) -> Listing
-    requires { Room (gave waiting out.old) }
-    ensures row { (result.reader ≡ taken.reader) × (buffer result out.new ≡ buffer_after (found_by taken) (gave waiting out.old)) }
-    ensures written { result.going ≡ true → Appends (W.contents output.old) (W.contents output.new) (written_by (found_by taken) (gave waiting out.old)) }
-{
-    let reader = taken.reader;
-    let next = listed::row(taken, out, waiting);
-    if out.len() - next < ROW {
-        let going = write(output, errors, out, next);
-        return Listing {
-            reader,
-            waiting: 0,
-            going,
-        };
-    }
-    Listing {
-        reader,
-        waiting: next,
-        going: true,
-    }
-}
-
-fn stopped(listing: Listing) -> Listing
-    ensures waiting { result.waiting ≡ listing.waiting }
-    ensures stops { result.going ≡ false }
-{
-    let mut last = listing;
-    last.going = false;
-    last
-}
-
-// Writes the rows that wait, and answers whether the output took them.
-fn write<W: Write>(output: &mut W, errors: &mut impl Write, out: &[u8], waiting: usize) -> bool
-    requires { waiting ≤ length out.now }
-    ensures written { result ≡ true → Appends (W.contents output.old) (W.contents output.new) (take waiting out.now) }
-{
-    if output.write_all(&out[..waiting]).is_ok() {
-        return true;
-    }
-    say(errors, b"listing: the output cannot be written\n");
-    false
-}
-
-// Where standard error takes nothing either, there is no one to tell.
-fn say(errors: &mut impl Write, text: &[u8]) {
-    let _ = errors.write_all(text);
+// Says what failed. Where standard error takes nothing either, there is no one to tell.
+fn complain(errors: &mut impl Write, failure: Failure) {
+    let line: &[u8] = match failure {
+        Failure::Input => b"listing: the input cannot be read\n",
+        Failure::Output => b"listing: the output cannot be written\n",
+    };
+    let _ = errors.write_all(line);
 }
