@@ -7,7 +7,9 @@ use borrow.Author.Tests.{le-leb, lt-leb}
 use lib.Dec.{leb}
 use lib.ListN.{length}
 use Rattle.wire.proofs.Cases.{by_order}
-use Rattle.wire.specs.declared.Answer.TheVariants.{Accepted, StreamFull}
+use Rattle.std.specs.Prelude.{Err}
+use Rattle.wire.specs.Answers.{Accepted}
+use Rattle.wire.specs.declared.Refusal.TheVariants.{StreamFull}
 use Rattle.stream.specs.Feed.{Outcome, feed_of}
 use Rattle.stream.specs.Record.{sound_of}
 use Rattle.stream.specs.declared.Stream.{Stream}
@@ -15,7 +17,7 @@ use Rattle.stream.proofs.Calls.{stream_full, fed}
 use Rattle.stream.proofs.Records.{sound_told}
 
 pub only_full : (given : Stream) (piece output : List ℕ) → sound_of given ≡ true → length piece ≤ 4096 → 4096 ≤ length output
-    → (feed_of given piece output).answer ≡ cond (leb (given.total + length piece) (2 ^ 48)) Accepted StreamFull
+    → (feed_of given piece output).answer ≡ cond (leb (given.total + length piece) (2 ^ 48)) Accepted (Err StreamFull)
 only_full given piece output sound short room =
     by_order (2 ^ 48) (given.total + length piece)
     (λ full. rw (lt-leb (given.total + length piece) (2 ^ 48) full) (ap (λ (o : Outcome). o.answer) (stream_full given piece output sound short room full)))

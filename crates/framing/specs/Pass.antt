@@ -1,12 +1,14 @@
 -- What the bytes of one read of the input make of the stream's record and of the text. Assumes nothing.
-use Rattle.std.specs.Prelude.{ℕ, ◌+◌, ◌^◌, ◌≤◌, ◌≡◌, List, leb, length, take}
+use Rattle.std.specs.Prelude.{ℕ, ◌+◌, ◌^◌, ◌≤◌, ◌≡◌, Bool, true, false, List, leb, length, take, Ok, Err}
 use Rattle.std.specs.Io.KnownBytes.{Consumes, Appends}
 use Rattle.std.specs.declared.option.Option.{Option}
+use Rattle.std.specs.declared.result.Result.{Result}
 use Rattle.stream.specs.Feed.{feed_of}
 use Rattle.stream.specs.declared.Stream.{Stream}
 use Rattle.text.specs.Put.{gave, written}
 use Rattle.framed.specs.Hexadecimal.{lines_of}
-use Rattle.framing.specs.declared.Passing.{Passing}
+use Rattle.framing.specs.declared.Failure.{Failure}
+use Rattle.framing.specs.declared.step.Passed.{Passed}
 
 -- a piece is what one call takes, and there is room for the frames that can come of it and for their lines
 pub record Buffers (piece frames text : List ℕ) : Type 0 where
@@ -17,6 +19,20 @@ pub record Buffers (piece frames text : List ℕ) : Type 0 where
 -- the bytes that a read gave, by what it answered
 abbrev pub bytes_read : ℕ → List ℕ → List ℕ
 bytes_read got piece = take got piece
+
+-- what a read leaves: the stream's record, how many bytes of the text wait to be written, and whether there is more to do
+pub record Passing : Type 0 where
+  pub stream : Stream
+  pub waiting : ℕ
+  pub going : Bool
+
+abbrev pub gone_on : Passed → Passing
+gone_on next = record { stream = next.stream; waiting = next.waiting; going = true }
+
+-- where a call fails, the record that it was given stays, and nothing waits
+abbrev pub passing : Stream → Result Passed Failure → Passing
+passing given (Ok next) = gone_on next
+passing given (Err failure) = record { stream = given; waiting = 0; going = false }
 
 -- the bytes are passed on: the next record is the call's, the lines of its frames wait at the start of the text, and there is more to do
 -- unless they make more than 2^48

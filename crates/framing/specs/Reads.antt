@@ -2,8 +2,7 @@
 use Rattle.std.specs.Prelude.{ℕ, List, [], ◌∷◌, ◌++◌, take}
 use Rattle.stream.specs.Run.{Call}
 use Rattle.stream.specs.declared.Stream.{Stream}
-use Rattle.framing.specs.Pass.{Passes}
-use Rattle.framing.specs.declared.Passing.{Passing}
+use Rattle.framing.specs.Pass.{Passing, Passes}
 
 -- a read: its bytes with the frames' buffer as it finds it, the text's buffer, and what they are afterwards
 pub record Read : Type 0 where

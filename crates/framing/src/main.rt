@@ -8,153 +8,134 @@
 // with a line that says so in the place of the closing line.
 #![tactic(auto)]
 
-ghost use Rattle.std.specs.Prelude.{◌≡◌, true, false, take};
+mod step;
+
+ghost use Rattle.std.specs.Prelude.{◌≡◌, ◌≤◌, length, take, OnOk, IfOk, IfErr, IfSome};
 ghost use Rattle.std.specs.Io.KnownBytes.{Appends};
 ghost use Rattle.text.specs.Put.{gave};
 ghost use Rattle.hexline.specs.Tally.{tally_of};
-ghost use Rattle.stream.specs.Record.{sound_of};
-ghost use Rattle.framing.specs.Pass.{Buffers, bytes_read, Passes, PassesSome, PassesOn};
+ghost use Rattle.framing.specs.Pass.{gone_on, passing, Passes, PassesSome, PassesOn};
 
 use hexline::print;
 use std::io::{Read, Write};
+use step::{Buffers, Passed};
 use stream::Stream;
 
-// What goes from one read to the next: the stream's record, how many bytes of the text wait to be
-// written, and whether there is more to do.
+// Why not all frames of a recording are printed.
 #[derive(Clone, Copy)]
-struct Passing {
-    stream: Stream,
-    waiting: usize,
-    going: bool,
+enum Failure {
+    Input,
+    TooLong,
+    Output,
 }
 
 fn main(rt: HostRuntime) {
     let mut piece = [0u8; 4096];
-    let mut frames = [0u8; 4096];
-    let mut text = [0u8; 8200];
-    pass(
+    let mut buffers = Buffers {
+        frames: [0u8; 4096],
+        text: [0u8; 8200],
+    };
+    find(
         &mut rt.stdin(),
         &mut rt.stdout(),
         &mut rt.stderr(),
         &mut piece,
-        &mut frames,
-        &mut text,
+        &mut buffers,
     );
 }
 
-// A proved loop has to end, and nothing says that an input does. So the reads are counted down, from
-// a number that no run uses up: each but the last gives a byte, and the stream is full after 2^48.
-fn pass(
+// Prints the frames, and says how that ended.
+fn find(
     input: &mut impl Read,
     output: &mut impl Write,
     errors: &mut impl Write,
-    piece: &mut [u8],
-    frames: &mut [u8],
-    text: &mut [u8],
-)
-    requires { Buffers piece.old frames.old text.old }
-{
-    let mut passing = Passing {
-        stream: Stream::fresh(),
-        waiting: 0,
-        going: true,
-    };
-    let mut reads = u64::MAX;
-    while reads > 0 && passing.going {
-        let stream = passing.stream;
-        passing = pass_some(input, output, errors, stream, piece, frames, text);
-        reads -= 1;
+    piece: &mut [u8; 4096],
+    buffers: &mut Buffers,
+) {
+    match pass(input, output, piece, buffers) {
+        Ok(stream) => close(errors, stream, &mut buffers.text),
+        Err(failure) => complain(errors, failure),
     }
 }
 
-// One read, and the lines of the frames that come of it; or the closing line, where the input ends.
+// The stream's record at the end of the input. A proved loop has to end, and nothing says that an input
+// does. So the reads are counted, up to a number that no run comes to: each but the last gives a byte,
+// and the stream is full after 2^48.
+fn pass(
+    input: &mut impl Read,
+    output: &mut impl Write,
+    piece: &mut [u8; 4096],
+    buffers: &mut Buffers,
+) -> Result<Stream, Failure> {
+    let mut passed = Passed {
+        stream: Stream::fresh(),
+        waiting: 0,
+    };
+    for _ in 0..u64::MAX {
+        match pass_some(input, output, passed, piece, buffers)? {
+            Some(next) => passed = next,
+            None => return Ok(passed.stream),
+        }
+    }
+    Err(Failure::TooLong)
+}
+
+// One read, and the lines of the frames that come of it. None is the end of the input.
 fn pass_some<R: Read, W: Write>(
     input: &mut R,
     output: &mut W,
-    errors: &mut impl Write,
-    stream: Stream,
-    piece: &mut [u8],
-    frames: &mut [u8],
-    text: &mut [u8],
-) -> Passing
-    requires sound { sound_of stream ≡ true }
-    requires buffers { Buffers piece.old frames.old text.old }
-    ensures still_sound { sound_of result.stream ≡ true }
-    ensures passes_some { result.going ≡ true → PassesSome stream piece.new frames.old text.old result text.new }
-    ensures passes_on { result.going ≡ true → PassesOn (R.remaining input.old) (R.remaining input.new) (W.contents output.old) (W.contents output.new) stream piece.new frames.old text.old result text.new }
+    given: Passed,
+    piece: &mut [u8; 4096],
+    buffers: &mut Buffers,
+) -> Result<Option<Passed>, Failure>
+    ensures passes_some { IfOk result (λ next. IfSome next (λ p. PassesSome given.stream piece.new buffers.old.frames buffers.old.text (gone_on p) buffers.new.text)) }
+    ensures passes_on { IfOk result (λ next. IfSome next (λ p. PassesOn (R.remaining input.old) (R.remaining input.new) (W.contents output.old) (W.contents output.new) given.stream piece.new buffers.old.frames buffers.old.text (gone_on p) buffers.new.text)) }
 {
     match input.read(piece) {
-        Err(_) => {
-            say(errors, b"frames: the input cannot be read\n");
-            stopped(stream)
-        }
-        Ok(0) => {
-            close(errors, stream, text);
-            stopped(stream)
-        }
-        Ok(got) => pass_piece(output, errors, stream, got, piece, frames, text),
+        Err(_) => Err(Failure::Input),
+        Ok(0) => Ok(None),
+        Ok(got) => Ok(Some(pass_piece(output, given, &piece[..got], buffers)?)),
     }
 }
 
 // The bytes of a read, through the stream, and the text to standard output.
 fn pass_piece<W: Write>(
     output: &mut W,
-    errors: &mut impl Write,
-    stream: Stream,
-    got: usize,
-    piece: &[u8],
-    frames: &mut [u8],
-    text: &mut [u8],
-) -> Passing
-    requires sound { sound_of stream ≡ true }
-    requires buffers { Buffers piece.now frames.old text.old }
-    ensures still_sound { sound_of result.stream ≡ true }
-    ensures passes { result.going ≡ true → Passes stream (bytes_read got piece.now) frames.old text.old result text.new }
-    ensures written { result.going ≡ true → Appends (W.contents output.old) (W.contents output.new) (take result.waiting text.new) }
+    given: Passed,
+    bytes: &[u8],
+    buffers: &mut Buffers,
+) -> Result<Passed, Failure>
+    requires { length bytes.now ≤ 4096 }
+    ensures passes { IfOk result (λ next. Passes given.stream bytes.now buffers.old.frames buffers.old.text (gone_on next) buffers.new.text) }
+    ensures written { IfOk result (λ next. Appends (W.contents output.old) (W.contents output.new) (take next.waiting buffers.new.text)) }
 {
-    let next = feed_on(stream, got, piece, frames, text);
-    if !next.going {
-        say(errors, b"frames: the input is longer than 2^48 bytes\n");
-        return next;
-    }
+    let next = feed_on(given, bytes, buffers)?;
     let waiting = next.waiting;
-    let mut last = next;
-    last.going = write(output, errors, &text[..waiting]);
-    last
+    text_output::write(output, &buffers.text[..waiting], Failure::Output)?;
+    Ok(next)
 }
 
 // The bytes of a read, through the stream. The lines of the frames handed out wait at the start of the
 // text. Of the refusals only STREAM_FULL can come.
-fn feed_on(stream: Stream, got: usize, piece: &[u8], frames: &mut [u8], text: &mut [u8]) -> Passing
-    requires sound { sound_of stream ≡ true }
-    requires buffers { Buffers piece.now frames.old text.old }
-    ensures { Passes stream (bytes_read got piece.now) frames.old text.old result text.new }
+fn feed_on(given: Passed, bytes: &[u8], buffers: &mut Buffers) -> Result<Passed, Failure>
+    requires { length bytes.now ≤ 4096 }
+    ensures passes { Passes given.stream bytes.now buffers.old.frames buffers.old.text (passing given.stream result) buffers.new.text }
+    ensures failed { IfErr result (λ e. e ≡ Failure.TooLong) }
 {
-    let n = piece.len().min(got);
-    let fed = stream.feed(&piece[..n], frames);
-    let waiting = framed::lines(frames, fed.frames, text);
-    let next = fed.next;
-    let answer = fed.answer;
-    Passing {
-        stream: next,
+    let Ok(fed) = given.stream.feed(bytes, &mut buffers.frames) else {
+        return Err(Failure::TooLong);
+    };
+    let waiting = framed::lines(&buffers.frames, fed.frames, &mut buffers.text);
+    Ok(Passed {
+        stream: fed.next,
         waiting,
-        going: wire::number(answer) == 0,
-    }
-}
-
-fn stopped(stream: Stream) -> Passing
-    ensures { result ≡ record { stream = stream; waiting = 0; going = false } }
-{
-    Passing {
-        stream,
-        waiting: 0,
-        going: false,
-    }
+    })
 }
 
 fn close(errors: &mut impl Write, stream: Stream, text: &mut [u8]) {
     let n = closing(stream, text);
-    say(errors, &text[..n]);
+    let line = &text[..n];
+    let _ = errors.write_all(line);
 }
 
 // The closing line of a stream, at the start of a slice.
@@ -164,18 +145,12 @@ fn closing(stream: Stream, out: &mut [u8]) -> usize
     print::tally(stream.frames, stream.skipped, stream.count as u64, out)
 }
 
-// Answers whether the output took the text.
-fn write<W: Write>(output: &mut W, errors: &mut impl Write, text: &[u8]) -> bool
-    ensures written { result ≡ true → Appends (W.contents output.old) (W.contents output.new) text.now }
-{
-    if output.write_all(text).is_ok() {
-        return true;
-    }
-    say(errors, b"frames: the output cannot be written\n");
-    false
-}
-
-// Where standard error takes nothing either, there is no one to tell.
-fn say(errors: &mut impl Write, text: &[u8]) {
-    let _ = errors.write_all(text);
+// Says what failed. Where standard error takes nothing either, there is no one to tell.
+fn complain(errors: &mut impl Write, failure: Failure) {
+    let line: &[u8] = match failure {
+        Failure::Input => b"frames: the input cannot be read\n",
+        Failure::TooLong => b"frames: the input is longer than 2^48 bytes\n",
+        Failure::Output => b"frames: the output cannot be written\n",
+    };
+    let _ = errors.write_all(line);
 }

@@ -1,11 +1,24 @@
 -- `feed_on` meets its contract: it feeds the bytes of the read, and the lines are those of the frames that came of it. Assumes nothing.
-use Rattle.std.proofs.Common.{ap, ◌∙◌, rules}
-use Rattle.stream.specs.Feed.{feed_of}
-use Rattle.framing.proofs.Passed.{all_of_a_piece, bytes_few, passed}
+use Rattle.std.proofs.Common.{rules, ap, ◌∙◌, arith}
+use Rattle.stream.specs.Feed.{Outcome}
+use Rattle.stream.specs.Record.{sound_of}
+use Rattle.stream.proofs.Sound.{next-sound}
+use Rattle.framing.proofs.Passed.{passed, full, waiting_inside}
 use Rattle.framing.proofs.feed_on.Goals as goal
 
-pub returns : goal.returns
-returns c =
-    let feeds = c.feed-fed.ensures ∙ ap (λ bytes. feed_of c.args.stream bytes c.args.frames.now) (all_of_a_piece c.min-n.result c.args.got c.args.piece.now (search rules)) in
-    passed _ _ _ _ c.requires.sound (bytes_few c.args.got c.args.piece.now c.requires.buffers.short) c.requires.buffers.whole c.requires.buffers.wide
-    _ _ _ _ _ feeds c.feed-fed.auto.output c.lines-waiting.ensures c.number.ensures
+pub returns-in_default-clause-passes : goal.returns-in_default-clause-passes
+returns-in_default-clause-passes c = full _ _ _ _ c.args.given.sound (record { short = c.requires; whole = omega arith; wide = omega arith }) _ _ c.in_default.ensures
+
+pub invariant_of-result : goal.invariant_of-result
+invariant_of-result c =
+    let within =
+    waiting_inside _ _ _ _
+    (passed _ _ _ _ c.args.given.sound (record { short = c.requires; whole = omega arith; wide = omega arith }) _ _ _ _ c.in-Ok.ensures c.feed.auto.output c.lines-waiting.ensures) in
+    record {
+      sound = ap (λ (o : Outcome). sound_of o.next) c.in-Ok.ensures ∙ next-sound c.args.given.stream c.args.bytes.now c.args.buffers.now.frames (search rules) c.args.given.sound;
+      inside = omega (arith, c.lines-waiting.auto.out);
+    }
+
+pub returns-clause-passes : goal.returns-clause-passes
+returns-clause-passes c =
+    passed _ _ _ _ c.args.given.sound (record { short = c.requires; whole = omega arith; wide = omega arith }) _ _ _ _ c.in-Ok.ensures c.feed.auto.output c.lines-waiting.ensures
