@@ -1,9 +1,17 @@
 -- The bytes of the input, one read after another. Assumes nothing.
-use Rattle.std.specs.Prelude.{ℕ, ◌+◌, ◌≡◌, true, false, cond, List, ◌++◌, ltb, length, take}
+use Rattle.std.specs.Prelude.{ℕ, ◌+◌, ◌≡◌, Bool, true, false, cond, List, ◌++◌, ltb, length, take, Ok, Err}
 use Rattle.std.specs.Io.KnownBytes.{Consumes}
 use Rattle.std.specs.declared.option.Option.{Option}
+use Rattle.std.specs.declared.result.Result.{Result}
 use Rattle.std.proofs.lemmas.List.Edits.{sets}
-use Rattle.explaining.specs.declared.Gathered.{Gathered}
+use Rattle.explaining.specs.declared.Failure.{Failure}
+use Rattle.explaining.specs.declared.recording.Recording.{Recording}
+
+-- how many bytes of the input there are so far, whether there is more to read, and whether they are all there are
+pub record Gathered : Type 0 where
+  pub count : ℕ
+  pub going : Bool
+  pub whole : Bool
 
 -- what is gathered, and the buffer that has it at its start
 pub record Kept : Type 0 where
@@ -12,6 +20,18 @@ pub record Kept : Type 0 where
 
 abbrev pub kept : Gathered → List ℕ → Kept
 kept gathered input = record { gathered = gathered; input = input }
+
+-- what a recording has at its start
+abbrev pub so_far : Recording → List ℕ
+so_far r = take r.count r.bytes
+
+-- a recording that grew, and one that had no room
+abbrev pub gone_on : Recording → Gathered
+gone_on r = record { count = r.count; going = true; whole = false }
+
+abbrev pub kept_by : Result (Unit {0}) Failure → Recording → Kept
+kept_by (Ok _) r = kept (gone_on r) r.bytes
+kept_by (Err _) r = kept (record { count = r.count; going = false; whole = false }) r.bytes
 
 -- bytes go behind those that are there; where they do not fit, there are too many
 unfoldable pub appended : ℕ → List ℕ → List ℕ → Kept

@@ -1,21 +1,29 @@
 -- What is printed for a place, and for a run. Assumes nothing.
-use Rattle.std.specs.Prelude.{ℕ, Bool, true, false, cond, List, length}
+use Rattle.std.specs.Prelude.{ℕ, Bool, true, false, cond, List, length, Ok, Err}
+use Rattle.std.specs.declared.result.Result.{Result}
 use Rattle.wire.specs.Answers.{accepts}
 use Rattle.text.specs.Put.{Written, gave}
 use Rattle.why.specs.Runs.{run_of}
 use Rattle.why.specs.Why.{why_of}
 use Rattle.sentences.specs.Run.{run_line_of, past_end_of}
 use Rattle.explained.specs.Shown.{shown_of}
+use Rattle.explaining.specs.declared.Failure.{Failure}
+use Rattle.explaining.specs.declared.Failure.TheVariants.{PastEnd}
 use Rattle.explaining.specs.declared.Line.{Line}
-use Rattle.explaining.specs.declared.Told.{Told}
 
 -- a text at the start of a buffer, and whether it is the answer
 pub record Saying : Type 0 where
   pub text : Written
   pub answer : Bool
 
-abbrev pub told_in : Told → List ℕ → Saying
-told_in told out = record { text = gave told.count out; answer = told.answer }
+-- of a place that is past the end the line says so, in place of an answer
+abbrev pub complaint_of : Failure → List ℕ → Written
+complaint_of (PastEnd length) out = past_end_of length out
+complaint_of _ out = gave 0 out
+
+abbrev pub told_in : Result ℕ Failure → List ℕ → Saying
+told_in (Ok count) out = record { text = gave count out; answer = true }
+told_in (Err failure) out = record { text = complaint_of failure out; answer = false }
 
 -- the reason of the place with the bytes around it, or that the input has no such place
 unfoldable pub place_told : List ℕ → ℕ → List ℕ → Saying
