@@ -12,9 +12,10 @@ ghost use Rattle.radio_door.specs.Status.{status_cells};
 ghost use Rattle.radio_door.specs.Radio.{gave};
 ghost use Rattle.hpsdr_transfer.specs.Transfer.{kept_after, read_transfer_of};
 
-use cells::{BAD_STATE, put, within};
-use radio_door::status::{MOST, status_cells, status_in};
+use radio_door::status::{status_cells, status_from};
 use transfer::Transfer;
+use wire::copy::put;
+use wire::tell;
 
 #[unsafe(no_mangle)]
 pub extern "C" fn hpsdr_radio_read_transfer(
@@ -26,12 +27,13 @@ pub extern "C" fn hpsdr_radio_read_transfer(
 ) -> u32
     ensures { gave result status.new iq.new mic.new ≡ read_transfer_of input.now receivers iq.old mic.old status.old }
 {
-    if !within(&MOST, status) {
-        return BAD_STATE;
+    match status_from(status) {
+        Ok(given) => {
+            let done = transfer::read(input, receivers, iq, mic, given);
+            keep(done, status)
+        }
+        Err(refusal) => tell(Err(refusal)),
     }
-    let given = status_in(status);
-    let done = transfer::read(input, receivers, iq, mic, given);
-    keep(done, status)
 }
 
 // What a transfer returns; where a frame was read, the record after the last of them stands in the cells.
@@ -40,13 +42,8 @@ pub(crate) fn keep(done: Transfer, cells: &mut [u32]) -> u32
     ensures value { result ≡ got (told done.answer) done.frames }
     ensures cells_after { cells.new ≡ kept_after done.frames (status_cells done.status) cells.old }
 {
-    let answer = done.answer;
-    let frames = done.frames;
-    let got = wire::tell(answer) + 256 * (frames as u32);
-    if frames == 0 {
-        return got;
+    if done.frames != 0 {
+        put(cells, 0, &status_cells(done.status));
     }
-    let fields = status_cells(done.status);
-    put(cells, 0, &fields);
-    got
+    tell(done.answer) + 256 * (done.frames as u32)
 }
