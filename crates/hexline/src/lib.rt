@@ -18,12 +18,13 @@ const NEWLINE: u8 = 0x0a;
 // The digits of a frame's 512 bytes.
 const FRAME: usize = 1024;
 
-// The count of a line that is no frame, however it goes on.
+// The count of a line that is no frame, however it goes on. A number, and no kind of its own: `Reader` and its definitions promise
+// what a call does with every count, and one above 1,024 is no frame whoever gave it.
 const NO_FRAME: usize = 1025;
 
 #[derive(Clone, Copy)]
 pub struct Reader {
-    // the bytes of the present line's digits so far; after `Line::Frame`, the frame
+    // the bytes of the present line's digits so far; after `Line::Frame`, the frame, in fixed memory: the digits are fewer until then
     pub frame: [u8; 512],
     // how many digits the present line has so far, or above 1,024: it is no frame
     pub count: usize,
@@ -31,6 +32,7 @@ pub struct Reader {
     pub number: u64,
 }
 
+// Three kinds by name. An Option of an answer would say of a frame only that it is accepted, and it is not read yet.
 #[derive(Clone, Copy)]
 pub enum Line {
     // no line ended

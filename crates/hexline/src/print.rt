@@ -25,7 +25,8 @@ pub struct Columns {
 }
 
 // Writes the row of a line, by what its reading gave, at the start of out and answers how many bytes it
-// has. An out of less than 64 bytes stays as it is, and the answer is 0.
+// has. An out of less than 64 bytes stays as it is, and the answer is 0: how many bytes were written, which is what a caller goes on
+// with either way.
 pub fn row(number: u64, read: Result<Columns, Refusal>, out: &mut [u8]) -> usize
     ensures { gave result out.new ≡ row_for number read out.old }
 {

@@ -10,7 +10,8 @@ use host_record::record::{Controls, Front, HighPass, Host, LowPass};
 // The number of its cells, and so the place of a builder's turn after them.
 pub const HOST: usize = 62;
 
-// Word 0's cells, the frequencies' and the drive's, word 9's, word 10's.
+// Word 0's cells, the frequencies' and the drive's, word 9's, word 10's. Each is its field by `as`, flags and numbers alike, so that
+// the lists read as C's record does.
 pub fn host_cells(host: Host) -> [u32; HOST]
     ensures { result ≡ host_cells host }
 {

@@ -30,14 +30,14 @@ pub fn is_on(c: u8, k: u8) -> bool
     (c >> k) % 2 == 1
 }
 
-// 1 for a bit that is on, and 0 for one that is off.
+// 1 for a bit that is on, and 0 for one that is off: the library's `u8::from`, with the bound that a sum of bits needs.
 pub fn flag_of(b: bool) -> u8
     ensures { (result ≡ flag b) × (result ≤ 1) }
 {
     u8::from(b)
 }
 
-// A byte of eight flags, bit 0 first.
+// A byte of eight flags, bit 0 first. They are eight parameters, as each comes from a field of its own.
 pub fn eight_flags(
     b0: bool,
     b1: bool,

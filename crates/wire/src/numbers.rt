@@ -91,6 +91,7 @@ pub(crate) fn signed_byte(a: u8) -> i32
     ((a as u32 + 128) % 256) as i32 - 128
 }
 
+// Two's complement once over the width, as document 01 wants it of 16 and 24 bits: the library has no number of 24.
 // The number that n stands for, where the patterns from half on stand for n - 2 * half.
 pub(crate) fn centred(n: u32, half: u32) -> i32
     requires { (n < half + half) × (half ≤ 2 ^ 24) }

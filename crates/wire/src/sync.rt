@@ -36,7 +36,7 @@ pub fn no_sync(frame: &[u8]) -> Refusal
 }
 
 // Sync and the control bytes, C0 and then C1 to C4, over the start of a frame. One with no room for
-// them is left as it is.
+// them is left as it is. C0 goes beside the word: who writes has the address and the keys, and the word's four bytes apart.
 #[tactic(auto, using(crate::proofs::Header::no_room))]
 pub fn put_header(frame: &mut [u8], c0: u8, word: Bytes4)
     ensures { frame.new ≡ headed c0 word frame.old }
