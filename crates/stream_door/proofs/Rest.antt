@@ -6,7 +6,7 @@ use Prim.Native.Nat.{ℕ, ◌+◌, ◌-◌, ◌<◌, ◌≤◌}
 use native.Mathlib.Nat.{zero-add}
 use native.Mathlib.Omega.{arith}
 use borrow.Rule.Slice.PartMut.{put_mid}
-use lib.ListN.{length, take, drop, replicate, length-append, length-drop, length-replicate, replicate-append-replicate}
+use lib.ListN.{length, take, drop, replicate, length-append, length-drop, length-replicate, replicate-append-replicate, take-append-drop}
 use lib.Seq.{drop-drop, take_all, length-take-le, drop-append-le, drop-append-add, sets, sets-eq, length-sets}
 use Rattle.std.proofs.lemmas.List.{drop-take}
 use Rattle.std.specs.List.{copy_within}
@@ -21,6 +21,33 @@ use Rattle.stream.specs.Record.{cells}
 -- from the start on, one list after the other
 sets_then : (xs ys zs : List ℕ) → sets (sets xs 0 ys) (length ys) zs ≡ sets xs 0 (ys ++ zs)
 sets_then xs ys zs = ap (λ n. sets (sets xs 0 ys) n zs) (sym (zero-add (length ys))) ∙ sets-append xs 0 ys zs
+
+-- ---- bytes moved to the start
+
+module _ (held : List ℕ) (place end : ℕ) (few : place ≤ end) (room : end ≤ length held) where
+  abbrev pub moved : List ℕ
+  moved = drop place (take end held)
+
+  moved-long : length moved ≡ end - place
+  moved-long = length-drop place (take end held) ∙ ap (λ n. n - place) (length-take-le end held room)
+
+  pub shifted : copy_within held place end 0 ≡ sets held 0 moved
+  shifted =
+      let all : place + (end - place) ≡ end = omega arith in
+      let is : moved ≡ take (end - place) (drop place held) = ap (λ n. drop place (take n held)) (sym all) ∙ drop-take place (end - place) held in
+      sym (sets-eq moved held 0 (omega (arith, moved-long)) ∙ ap (λ n. moved ++ drop (0 + n) held) moved-long ∙ ap (λ l. l ++ drop (0 + (end - place)) held) is)
+
+  pub stays : place ≡ 0 → held ≡ sets held 0 moved
+  stays none =
+      let size = length-take-le end held room in
+      sym
+      (ap (λ n. sets held 0 (drop n (take end held))) none
+      ∙ sets-eq (take end held) held 0 (omega arith)
+      ∙ ap (λ n. take end held ++ drop (0 + n) held) size
+      ∙ ap (λ n. take end held ++ drop n held) (zero-add end)
+      ∙ take-append-drop end held)
+
+-- ---- zeros
 
 -- zeros behind bytes, in cells that are zero past them, are none the more
 as_many : (n front k all : ℕ) → all ≡ front + k → front + k ≤ n → k + (n - all) ≡ n - front
@@ -80,23 +107,13 @@ module _ (held piece : List ℕ) (count place : ℕ) (long : length held ≡ 514
       length-drop place (take count held ++ piece)
       ∙ ap (λ n. n - place) (joined_length count held piece (omega arith))
 
-  -- the held bytes from the place on, moved to the start
-  shifted : place < count → copy_within held place count 0 ≡ sets held 0 (drop place (take count held))
-  shifted some =
-      let moved = drop place (take count held) in
-      let all : place + (count - place) ≡ count = omega arith in
-      let is : moved ≡ take (count - place) (drop place held) = ap (λ n. drop place (take n held)) (sym all) ∙ drop-take place (count - place) held in
-      let size : length moved ≡ count - place = length-drop place (take count held) ∙ ap (λ n. n - place) held_long in
-      sym (sets-eq moved held 0 (omega arith) ∙ ap (λ n. moved ++ drop (0 + n) held) size ∙ ap (λ l. l ++ drop (0 + (count - place)) held) is)
-
-  -- and the piece behind them
-  pub from_both : place < count → (moved : List ℕ) → moved ≡ copy_within held place count 0 → written moved (count - place) piece ≡ sets held 0 rest
-  from_both some moved is =
+  -- the held bytes from the place on at the start, and the piece behind them
+  pub from_both : place < count → written (sets held 0 (drop place (take count held))) (count - place) piece ≡ sets held 0 rest
+  from_both some =
       let first = drop place (take count held) in
       let size : length first ≡ count - place = length-drop place (take count held) ∙ ap (λ n. n - place) held_long in
       let whole : length (sets held 0 first) ≡ length held = length-sets held 0 first in
-      ap (λ l. written l (count - place) piece) (is ∙ shifted some)
-      ∙ all_written (sets held 0 first) (count - place) piece (omega arith)
+      all_written (sets held 0 first) (count - place) piece (omega arith)
       ∙ ap (λ n. sets (sets held 0 first) n piece) (sym size)
       ∙ sets_then held first piece
       ∙ ap (sets held 0) (sym (drop-append-le place (take count held) piece (omega (arith, held_long))))

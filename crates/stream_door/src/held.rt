@@ -31,6 +31,17 @@ pub(crate) fn lay(held: &mut [u8; 514], count: usize, piece: &[u8], place: usize
         put(held, 0, &piece[place - count..]);
         return;
     }
-    held.copy_within(place..count, 0);
+    shift(held, place, count);
     put(held, count - place, piece);
+}
+
+// The bytes from a place up to an end, moved to the start. Where they stand there, nothing is moved: a stream that
+// comes in small pieces would pay for it with each.
+pub(crate) fn shift(held: &mut [u8; 514], place: usize, end: usize)
+    requires { (place ≤ end) × (end ≤ 514) }
+    ensures { held.new ≡ sets held.old 0 (drop place (take end held.old)) }
+{
+    if 0 < place {
+        held.copy_within(place..end, 0);
+    }
 }

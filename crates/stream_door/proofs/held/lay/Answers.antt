@@ -18,4 +18,5 @@ returns c =
     let given = c.args in
     let long : length given.held.now ≡ 514 = search rules in
     c.put-2.ensures
-    ∙ from_both given.held.now given.piece.now given.count given.place long (omega arith) (omega arith) (omega arith) (omega arith) c.copy_within.new.self c.copy_within.ensures.after
+    ∙ rw c.shift.ensures
+    (from_both given.held.now given.piece.now given.count given.place long (omega arith) (omega arith) (omega arith) (omega arith))
