@@ -3,7 +3,7 @@
 // `put_head` takes what it is given, and writes nothing that cannot be sent.
 #![tactic(auto)]
 
-ghost use Rattle.std.specs.Prelude.{◌≡◌, IfOk, IfErr};
+ghost use Rattle.std.specs.Prelude.{◌≡◌, Err, MatchResult};
 ghost use Rattle.wire.specs.Answers.{first};
 ghost use Rattle.host_turn.specs.Sent.{InRange, c1_of, c2_of, c3_of, c4_of, settings_bytes, switches_bytes, front_c1, front_c2, front_bytes, said, ranges, begun};
 
@@ -43,29 +43,32 @@ pub fn put_head(frame: &mut [u8], turn: u8, host: Host)
     if LAST_WORD < turn {
         return;
     }
-    let Ok(fitting) = Fitting::of(host) else {
+    let Ok(fitting) = Fitting::try_from(host) else {
         return;
     };
     let c0 = flag_of(host.mox) + turn * 2;
     put_header(frame, c0, fitting.word(turn));
 }
 
-// A record whose every value fits: `of` alone makes one, by the test.
+// A record whose every value fits: `try_from` alone makes one, by the test.
 #[derive(Clone, Copy)]
 pub(crate) struct Fitting {
     host: Host,
     ghost in_range: { InRange host },
 }
 
-impl Fitting {
-    pub(crate) fn of(host: Host) -> Result<Fitting, Refusal>
-        ensures ok { IfOk result (λ fitting. fitting.host ≡ host) }
-        ensures err { IfErr result (λ refusal. first (ranges host) ≡ Err refusal) }
-    {
+impl TryFrom<Host> for Fitting {
+    type Error = Refusal;
+
+    ghost try_from_gives = { λ host result. MatchResult result (λ fitting. fitting.host ≡ host) (λ refusal. first (ranges host) ≡ Err refusal) };
+
+    fn try_from(host: Host) -> Result<Fitting, Refusal> {
         out_of_range(host)?;
         Ok(Fitting { host })
     }
+}
 
+impl Fitting {
     // C1 to C4 of the word that is due.
     pub(crate) fn word(self, turn: u8) -> Bytes4
         ensures { result ≡ said turn self.host }

@@ -85,6 +85,7 @@ pub(crate) fn hertz(c: Control) -> u32
     be32(c.c1, c.c2, c.c3, c.c4)
 }
 
+// The parts of words 9 and 10. No `From`: the types are the record's crate's, and the bits this one's.
 pub(crate) fn controls_of(c2: u8) -> Controls
     ensures { result ≡ controls_of c2 }
 {
