@@ -3,16 +3,19 @@ use mathlib.Core.Path.{◌≡◌, refl}
 use mathlib.Core.List.{List}
 use Prim.Native.Nat.{ℕ, ◌<◌, ◌≤◌}
 use native.Mathlib.Omega.{arith}
-use Rattle.wire.specs.Answers.{place_of}
+use Rattle.wire.specs.Answers.{Answer, told, place_of}
 use Rattle.cells.proofs.Parts.{lower_half, upper_half}
 use Rattle.why.specs.Reasons.{IsTrueReason}
-use Rattle.why.specs.Why.{reason_of, why_of}
+use Rattle.why.specs.Why.{Why, refused, reason_of, why_of}
 use Rattle.why.specs.declared.Reason.{Reason}
 use Rattle.why.specs.declared.Reason.TheVariants.{NotGiven, Inside, Near, Far, Held}
-use Rattle.why.specs.declared.Why.{Why}
 use Rattle.why.proofs.Cases.{by_outcome}
 use Rattle.why.proofs.TrueReason.{reason_of_is_true}
 use Rattle.hpsdr_why.specs.Why.{number_of, carried_by, returned_of, why_byte_of, reason_from, TellsWhy}
+
+-- where no reason is given, the answer alone is told
+pub no_reason : (a : Answer) → told a ≡ returned_of (refused a)
+no_reason a = omega arith
 
 -- a reason's number and what it carries make it
 made_of : (r : Reason) → reason_from (number_of r) (carried_by r) ≡ r

@@ -2,10 +2,9 @@
 use Rattle.std.specs.Prelude.{ℕ, ◌+◌, ◌*◌, ◌/◌, ◌%◌, ◌^◌, cond, ◌≡◌, List, eqb}
 use Rattle.wire.specs.Answers.{told}
 use Rattle.cells.specs.Cells.{got, found_in, Tells}
-use Rattle.why.specs.Why.{why_of}
+use Rattle.why.specs.Why.{Why, why_of}
 use Rattle.why.specs.declared.Reason.{Reason}
 use Rattle.why.specs.declared.Reason.TheVariants.{NotGiven, Inside, Near, Far, Held}
-use Rattle.why.specs.declared.Why.{Why}
 
 -- a reason's number, and what it carries: a frame's start, or a sync's byte; 0 where it carries nothing
 abbrev pub number_and_carried : Reason → ℕ × ℕ

@@ -5,49 +5,40 @@
 #![tactic(auto)]
 
 ghost use Rattle.std.specs.Prelude.{◌≡◌, ◌<◌, ◌≤◌};
-ghost use Rattle.hpsdr_why.specs.Why.{number_of, carried_by, returned_of, why_byte_of};
+ghost use Rattle.wire.specs.Answers.{Accepted};
+ghost use Rattle.hpsdr_why.specs.Why.{number_and_carried, carried_by, returned_of, why_byte_of};
 
-use why::{Reason, Why};
+use why::Reason;
+use wire::tell;
 
 #[unsafe(no_mangle)]
 pub extern "C" fn hpsdr_why_byte(input: &[u8], place: usize) -> u64
     ensures { result ≡ why_byte_of input.now place }
 {
-    returned(why::explain(input, place))
-}
-
-// The answer in bits 7 to 0, the reason's number in bits 15 to 8, what it carries in bits 63 to 32.
-pub(crate) fn returned(why: Why) -> u64
-    requires { carried_by why.reason < 65536 }
-    ensures { result ≡ returned_of why }
-{
-    let answer = why.answer;
-    let reason = why.reason;
-    let got = wire::tell(answer) as u64 + 256 * number(reason);
-    got + 0x1_0000_0000 * carried(reason)
-}
-
-pub(crate) fn number(reason: Reason) -> u64
-    ensures { (result ≡ number_of reason) × (result ≤ 4) }
-{
-    match reason {
-        Reason::NotGiven => 0,
-        Reason::Inside(_) => 1,
-        Reason::Near(_) => 2,
-        Reason::Far(_) => 3,
-        Reason::Held => 4,
+    match why::explain(input, place) {
+        Ok(reason) => returned(reason),
+        Err(refusal) => tell(Err(refusal)) as u64,
     }
 }
 
-// The frame's start, or the sync's byte.
-pub(crate) fn carried(reason: Reason) -> u64
-    ensures { result ≡ carried_by reason }
+// The reason's number in bits 15 to 8, what it carries in bits 63 to 32, and the answer, which is 0, in bits 7 to 0.
+pub(crate) fn returned(reason: Reason) -> u64
+    requires { carried_by reason < 65536 }
+    ensures { result ≡ returned_of (record { answer = Accepted; reason = reason }) }
+{
+    let (number, carried) = number_and_carried(reason);
+    256 * number + 0x1_0000_0000 * carried
+}
+
+// A reason's number, which is C's, and the frame's start or the sync's byte.
+pub(crate) fn number_and_carried(reason: Reason) -> (u64, u64)
+    ensures { (result ≡ number_and_carried reason) × (result.0 ≤ 4) }
 {
     match reason {
-        Reason::NotGiven => 0,
-        Reason::Inside(start) => start as u64,
-        Reason::Near(byte) => byte as u64,
-        Reason::Far(byte) => byte as u64,
-        Reason::Held => 0,
+        Reason::NotGiven => (0, 0),
+        Reason::Inside(start) => (1, start as u64),
+        Reason::Near(byte) => (2, byte as u64),
+        Reason::Far(byte) => (3, byte as u64),
+        Reason::Held => (4, 0),
     }
 }
