@@ -11,7 +11,8 @@ ghost use Rattle.cells.specs.Cells.{within, returned_by, wrote, offered};
 use wire::{Answer, Refusal, tell};
 
 // Whether the cells can be a record's: none is missing, and none holds more than its field can. It has
-// no early way out, so that many are tested at a time.
+// no early way out, so that many are tested at a time, and goes over as many cells as there are mosts, whose number is a
+// constant where it is called: a table of them is folded into the tests.
 #[tactic(auto, using(crate::proofs::Tested::too_few))]
 pub fn within(most: &[u32], cells: &[u32]) -> bool
     ensures { result ≡ within most.now cells.now }
@@ -20,7 +21,7 @@ pub fn within(most: &[u32], cells: &[u32]) -> bool
         return false;
     }
     let mut so_far = true;
-    for (cell, most) in cells.iter().zip(most) {
+    for (cell, most) in cells[..most.len()].iter().zip(most) {
         so_far = so_far & (*cell <= *most);
     }
     so_far
