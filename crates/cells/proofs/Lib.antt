@@ -1,6 +1,5 @@
 -- What is proved of records as cells.
 pub mod Tested
-pub mod Joined
 pub mod Cases
 pub mod Back
 pub mod Parts
