@@ -3,19 +3,20 @@ ghost use Rattle.std.specs.Prelude.{◌≡◌};
 ghost use Rattle.stream_door.specs.Stream.{left, fresh_in, sound_in, gave, feed_in};
 
 use stream_door::{stream_feed, stream_fresh, stream_sound};
+use wire::number;
 
 #[unsafe(no_mangle)]
 pub extern "C" fn hpsdr_stream_fresh(counts: &mut [u64], held: &mut [u8]) -> u32
     ensures { left result counts.new held.new ≡ fresh_in counts.old held.old }
 {
-    stream_fresh(counts, held)
+    u32::from(number(stream_fresh(counts, held)))
 }
 
 #[unsafe(no_mangle)]
 pub extern "C" fn hpsdr_stream_sound(counts: &[u64], held: &[u8]) -> u32
     ensures { result ≡ sound_in counts.now held.now }
 {
-    stream_sound(counts, held)
+    u32::from(number(stream_sound(counts, held)))
 }
 
 #[unsafe(no_mangle)]
@@ -27,5 +28,8 @@ pub extern "C" fn hpsdr_stream_feed(
 ) -> u32
     ensures { gave result counts.new held.new output.new ≡ feed_in counts.old held.old piece.now output.old }
 {
-    stream_feed(counts, held, piece, output)
+    match stream_feed(counts, held, piece, output) {
+        Ok(frames) => 256 * u32::from(frames),
+        Err(refusal) => u32::from(refusal.number()),
+    }
 }

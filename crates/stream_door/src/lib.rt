@@ -5,6 +5,7 @@
 mod held;
 
 ghost use Rattle.std.specs.Prelude.{◌≡◌, get_or};
+ghost use Rattle.wire.specs.Answers.{number_of};
 ghost use Rattle.stream.specs.Feed.{feed_of};
 ghost use Rattle.stream_cells.specs.Stream.{stream_of};
 ghost use Rattle.stream_door.specs.Stream.{left, fresh_in, sound_in, gave, got_by, shown, feed_in};
@@ -13,39 +14,42 @@ use held::hold;
 use stream::scan::scan;
 use stream::{Counts, Stream, answer_of};
 use stream_cells::{put_stream, room, stream_in};
-use wire::{Refusal, number};
+use wire::{Answer, Refusal};
 
-pub fn stream_fresh(counts: &mut [u64], held: &mut [u8]) -> u32
-    ensures { left result counts.new held.new ≡ fresh_in counts.old held.old }
+pub fn stream_fresh(counts: &mut [u64], held: &mut [u8]) -> Answer
+    ensures { left (number_of result) counts.new held.new ≡ fresh_in counts.old held.old }
 {
-    number(put_stream(Stream::fresh(), counts, held)) as u32
+    put_stream(Stream::fresh(), counts, held)
 }
 
-pub fn stream_sound(counts: &[u64], held: &[u8]) -> u32
-    ensures { result ≡ sound_in counts.now held.now }
+pub fn stream_sound(counts: &[u64], held: &[u8]) -> Answer
+    ensures { number_of result ≡ sound_in counts.now held.now }
 {
     if room(counts, held).is_none() {
-        return Refusal::BadState.number() as u32;
+        return Err(Refusal::BadState);
     }
     if !stream_in(counts, held).sound() {
-        return Refusal::BadState.number() as u32;
+        return Err(Refusal::BadState);
     }
-    0
+    Ok(())
 }
 
-pub fn stream_feed(counts: &mut [u64], held: &mut [u8], piece: &[u8], output: &mut [u8]) -> u32
-    ensures { gave result counts.new held.new output.new ≡ feed_in counts.old held.old piece.now output.old }
+// The frames that are handed out.
+pub fn stream_feed(
+    counts: &mut [u64],
+    held: &mut [u8],
+    piece: &[u8],
+    output: &mut [u8],
+) -> Result<u8, Refusal>
+    ensures { gave (got_by result) counts.new held.new output.new ≡ feed_in counts.old held.old piece.now output.old }
 {
     let Some(counts) = counts.first_chunk_mut::<4>() else {
-        return Refusal::BadState.number() as u32;
+        return Err(Refusal::BadState);
     };
     let Some(held) = held.first_chunk_mut::<514>() else {
-        return Refusal::BadState.number() as u32;
+        return Err(Refusal::BadState);
     };
-    match feed(counts, held, piece, output) {
-        Ok(frames) => 256 * (frames as u32),
-        Err(refusal) => refusal.number() as u32,
-    }
+    feed(counts, held, piece, output)
 }
 
 // The frames of a call on a record's cells, or its refusal. The cells are read where they are lent, and no record is

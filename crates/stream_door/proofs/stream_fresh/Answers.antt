@@ -1,11 +1,8 @@
 -- `stream_door::stream_fresh` meets its contract: no cells for a record, or a fresh one in them. Assumes nothing.
-use mathlib.Core.Path.{ap, ◌∙◌}
-use Rattle.stream_door.specs.Stream.{left}
 use Rattle.stream_door.proofs.StreamCases.{fresh_left}
 use Rattle.stream_door.proofs.stream_fresh.Goals as goal
 
 pub returns : goal.returns
 returns c =
     let put = c.put_stream in
-    ap (λ k. left k put.new.counts put.new.held) c.number.ensures
-    ∙ fresh_left c.args.counts.now c.args.held.now c.fresh.result put.result put.new.counts put.new.held c.fresh.ensures put.ensures.answer put.ensures.cells
+    fresh_left c.args.counts.now c.args.held.now c.fresh.result put.result put.new.counts put.new.held c.fresh.ensures put.ensures.answer put.ensures.cells

@@ -6,13 +6,13 @@ use Rattle.stream_door.proofs.StreamCases.{sound_bad, sound_good}
 use Rattle.stream_door.proofs.stream_sound.Goals as goal
 
 pub returns-then-is_none : goal.returns-then-is_none
-returns-then-is_none c = c.number.ensures ∙ sym (sound_bad _ _ (sym c.room.ensures.some ∙ c.if-is_none.ensures))
+returns-then-is_none c = sym (sound_bad _ _ (sym c.room.ensures.some ∙ c.if-is_none.ensures))
 
 pub returns-then-not-sound : goal.returns-then-not-sound
 returns-then-not-sound c =
     let fits = sym c.room.ensures.some ∙ c.if-is_none.ensures in
     let tested = sym (c.sound.ensures ∙ ap sound_of (c.stream_in.ensures ∙ stream-held _ _ fits)) in
-    c.number-then-not-sound.ensures ∙ sym (sound_good _ _ fits _ (tested ∙ c.if-not-sound.true))
+    sym (sound_good _ _ fits _ (tested ∙ c.if-not-sound.true))
 
 pub returns : goal.returns
 returns c =
