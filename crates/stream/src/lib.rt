@@ -26,7 +26,7 @@ pub const FULL: u64 = 0x1_0000_0000_0000;
 
 #[derive(Clone, Copy)]
 pub struct Stream {
-    // the bytes left by the calls so far; the cells past `count` are zero
+    // the bytes left by the calls so far; the cells past `count` are zero: document 01's record, which C lends as it is
     pub held: [u8; 514],
     pub count: usize,
     pub frames: u64,
@@ -34,7 +34,8 @@ pub struct Stream {
     pub total: u64,
 }
 
-// The numbers of a record whose cells are lent, and not part of it.
+// The numbers of a record whose cells are lent, and not part of it. `Stream` has the four itself, and no `Counts`: its
+// fields are those of document 01's record.
 #[derive(Clone, Copy)]
 pub struct Counts {
     pub count: usize,

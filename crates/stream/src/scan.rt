@@ -67,6 +67,7 @@ impl<'a> Joined<'a> {
     {
         let mut frames = 0;
         let mut place = self.next_good(0);
+        // The next place is the one that `next_good` gives, so that no range has it.
         while place + 515 <= self.len() {
             self.put_part(place, 512, output, 512 * frames);
             frames += 1;
@@ -81,7 +82,7 @@ impl<'a> Joined<'a> {
 }
 
 // The reading of at most 514 held bytes and a piece of at most 4,096 to an output of at least 4,096. Of more,
-// or to fewer, nothing is read.
+// or to fewer, nothing is read: the three zeros of a reading of no bytes are then its promise.
 pub fn scan(held: &[u8], piece: &[u8], output: &mut [u8]) -> Scanned
     ensures { Scans (cond (leb (length held.now) 514 && leb (length piece.now) 4096 && leb 4096 (length output.old)) (held.now ++ piece.now) []) output.old result output.new }
 {

@@ -8,6 +8,7 @@ use wire::places::first_other;
 use wire::sync::sync_at;
 
 // "A place begins a good frame if sync stands there and again 512 bytes later"
+// The plain reader has the same test of its own: each reader leans on the rule alone, and on no other reader.
 pub(crate) fn good_at(input: &[u8], place: usize) -> bool
     requires { place + 515 ≤ length input.now }
     ensures { result ≡ good input.now place }

@@ -52,6 +52,7 @@ pub(crate) fn run_end(input: &[u8], start: usize, begins: bool) -> usize
 {
     let step = step_by(begins);
     let mut place = start;
+    // The run ends behind its last step: a range by `step_by` would need that place kept beside its own.
     while 515 <= input.len() - place {
         if good_at(input, place) != begins {
             return place;
