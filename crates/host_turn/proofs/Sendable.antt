@@ -1,5 +1,5 @@
 -- A record that no test of its ranges refuses, and `begun` where a word can be sent and where not. Assumes nothing.
-use mathlib.Core.Path.{◌≡◌, refl, ap, ◌∙◌}
+use mathlib.Core.Path.{◌≡◌, ap, ◌∙◌}
 use mathlib.Core.Bool.{false, and-false}
 use mathlib.Core.List.{List, ◌++◌}
 use Prim.Native.Nat.{ℕ, ◌+◌, ◌<◌, ◌≤◌}
@@ -7,10 +7,10 @@ use native.Mathlib.Omega.{arith}
 use borrow.Author.Tests.{ne_eqb, le-leb, lt-leb, le-ltb, ltb-false}
 use lib.ListN.{length, drop}
 use lib.Seq.{sets-eq}
-use Rattle.wire.proofs.First.{None, accepted_none, none_accepted, only_accepted}
+use Rattle.wire.proofs.First.{None, none_accepted, only_accepted}
 use Rattle.wire.proofs.Header.{with_room}
 use Rattle.std.specs.Prelude.{Err}
-use Rattle.wire.specs.Answers.{Accepted, first, number_of, accepts}
+use Rattle.wire.specs.Answers.{first, number_of, accepts}
 use Rattle.wire.specs.Sync.{headed}
 use Rattle.wire.specs.declared.Refusal.{Refusal}
 use Rattle.host_record.specs.declared.record.Host.{Host}
@@ -32,9 +32,6 @@ module _ (h : Host) where
   pub in_range_none : InRange h → None (ranges h)
   in_range_none range =
       (le-ltb _ _ range.outputs, (le-ltb _ _ range.some, (le-ltb _ _ range.few, (le-ltb _ _ range.gain, (le-ltb _ _ range.top, tt)))))
-
-  pub accepted_in_range : first (ranges h) ≡ Accepted → InRange h
-  accepted_in_range e = none_in_range (accepted_none (ranges h) refl e)
 
 module _ (turn : ℕ) (h : Host) (frame : List ℕ) where
   pub past_last : last_word < turn → begun turn h frame ≡ frame
