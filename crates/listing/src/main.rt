@@ -106,6 +106,7 @@ fn list_chunk<W: Write>(reader: Reader, chunk: &[u8], rows: &mut Rows<W>) -> Res
 {
     let mut next = reader;
     let mut rest = chunk;
+    // A step is as long as what was taken, so that no range and no `chunks` has it.
     while !rest.is_empty() {
         let taken = next.take(rest);
         next = taken.reader;
