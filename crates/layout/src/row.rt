@@ -1,7 +1,7 @@
 // A row of the table: how the samples of a number of receivers fill a payload. Whoever holds one knows that its numbers
 // are those of its receivers.
-ghost use Rattle.std.specs.Prelude.{◌≡◌, ◌-◌};
-ghost use Rattle.layout.specs.Slots.{FollowsRule, values, padding as padding_for};
+ghost use Rattle.std.specs.Prelude.{◌≡◌, ◌-◌, ◌||◌, ltb};
+ghost use Rattle.layout.specs.Slots.{FollowsRule, values, slots as slots_for, padding as padding_for};
 
 // Receivers, a slot's bytes, the slots of a payload, and the bytes of padding after them.
 #[derive(Clone, Copy)]
@@ -19,6 +19,13 @@ impl Row {
         ensures { result ≡ values self.receivers }
     {
         2 * (self.receivers * self.slots)
+    }
+
+    // Whether a slice of so many I and Q values, or one of so many microphone values, is too short for a frame.
+    pub fn is_short(self, iq: usize, mic: usize) -> bool
+        ensures { result ≡ (ltb iq (values self.receivers) || ltb mic (slots_for self.receivers)) }
+    {
+        iq < self.values() || mic < self.slots
     }
 
     // The byte of a frame where its padding begins.

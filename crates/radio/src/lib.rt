@@ -85,10 +85,7 @@ pub(crate) fn refusal(frame: &[u8], row: Row, iq: usize, mic: usize) -> Answer
     if frame.len() != 512 {
         return Err(Refusal::Length);
     }
-    if iq < row.values() {
-        return Err(Refusal::ShortBuffer);
-    }
-    if mic < row.slots {
+    if row.is_short(iq, mic) {
         return Err(Refusal::ShortBuffer);
     }
     if !sync_at(frame, 0) {
@@ -148,10 +145,7 @@ pub(crate) fn write_refusal(
     if frame != 512 {
         return Err(Refusal::Length);
     }
-    if iq.len() < needed {
-        return Err(Refusal::ShortBuffer);
-    }
-    if mic < row.slots {
+    if row.is_short(iq.len(), mic) {
         return Err(Refusal::ShortBuffer);
     }
     if !all_fit24(&iq[..needed]) {

@@ -48,10 +48,7 @@ pub(crate) fn fitting(
     ensures { result ≡ fit receivers iq mic bytes due }
 {
     let row = layout::row_of(receivers).ok()?;
-    if iq < row.values() {
-        return None;
-    }
-    if mic < row.slots {
+    if row.is_short(iq, mic) {
         return None;
     }
     if bytes != due {

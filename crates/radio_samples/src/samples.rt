@@ -7,6 +7,9 @@ ghost use Rattle.radio_samples.specs.Samples.{sample24, sample16, iq_at, mic_at}
 use layout::Row;
 use wire::numbers::{sample16, sample24};
 
+// There are as many Q values as I values, so that their number is even, and each contract says so: a type of pairs would not be the
+// numbers that C lends.
+
 // Every sample of the payload, in slot order, at the start of its slice.
 pub(crate) fn read_slots(payload: &[u8], row: Row, iq: &mut [i32], mic: &mut [i16])
     requires { (length payload.now ≡ 504) × (values_of row.receivers ≤ length iq.old) × (slots row.receivers ≤ length mic.old) }
