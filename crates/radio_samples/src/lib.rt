@@ -48,7 +48,11 @@ pub(crate) fn fitting(
     ensures { result ≡ fit receivers iq mic bytes due }
 {
     let row = layout::row_of(receivers).ok()?;
-    if row.is_short(iq, mic) {
+    // each by itself, and not by `is_short`, since the definition says of each that it is enough
+    if iq < row.values() {
+        return None;
+    }
+    if mic < row.slots {
         return None;
     }
     if bytes != due {
