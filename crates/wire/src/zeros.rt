@@ -2,7 +2,8 @@
 ghost use Rattle.std.specs.Prelude.{◌≡◌};
 ghost use Rattle.wire.specs.Every.{all_zero};
 
-// Whether every byte is 0. It has no early way out, so that many are taken at a time.
+// Whether every byte is 0. It has no early way out, so that many are taken at a time. `all_fit24` is the same loop over another
+// test: as a parameter, a test would come with clauses of its own that are longer than the loop.
 pub fn all_zero(part: &[u8]) -> bool
     ensures { result ≡ all_zero part.now }
 {
