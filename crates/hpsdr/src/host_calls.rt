@@ -5,32 +5,34 @@ ghost use Rattle.cells.specs.Cells.{wrote, offered};
 ghost use Rattle.host_cells.specs.Host.{host_cells};
 ghost use Rattle.host_door.specs.HostCalls.{gave, built, host_read_of, host_build_of};
 
+use cells::returned;
 use host_door::{build, builder_fresh, host_fresh, host_read};
+use wire::number;
 
 #[unsafe(no_mangle)]
 pub extern "C" fn hpsdr_host_read(frame: &[u8], audio: &mut [i16], host: &mut [u32]) -> u32
     ensures { gave result host.new audio.new ≡ host_read_of frame.now audio.old host.old }
 {
-    host_read(frame, audio, host)
+    returned(host_read(frame, audio, host))
 }
 
 #[unsafe(no_mangle)]
 pub extern "C" fn hpsdr_build(builder: &mut [u32], audio: &[i16], frame: &mut [u8]) -> u32
     ensures { built result builder.new frame.new ≡ host_build_of builder.old audio.now frame.old }
 {
-    build(builder, audio, frame)
+    number(build(builder, audio, frame)) as u32
 }
 
 #[unsafe(no_mangle)]
 pub extern "C" fn hpsdr_host_fresh(host: &mut [u32]) -> u32
     ensures { wrote result host.new ≡ offered (host_cells fresh) host.old }
 {
-    host_fresh(host)
+    number(host_fresh(host)) as u32
 }
 
 #[unsafe(no_mangle)]
 pub extern "C" fn hpsdr_builder_fresh(builder: &mut [u32]) -> u32
     ensures { wrote result builder.new ≡ offered (host_cells fresh ++ (0 ∷ [])) builder.old }
 {
-    builder_fresh(builder)
+    number(builder_fresh(builder)) as u32
 }

@@ -6,7 +6,9 @@ ghost use Rattle.radio_door.specs.Status.{status_cells};
 ghost use Rattle.radio_door.specs.Radio.{gave, radio_read_of, radio_write_of};
 ghost use Rattle.radio_door.specs.Layout.{layout_of};
 
+use cells::returned;
 use radio_door::{layout_row, radio_read, radio_write, status_fresh};
+use wire::number;
 
 #[unsafe(no_mangle)]
 pub extern "C" fn hpsdr_radio_read(
@@ -18,7 +20,7 @@ pub extern "C" fn hpsdr_radio_read(
 ) -> u32
     ensures { gave result status.new iq.new mic.new ≡ radio_read_of frame.now receivers iq.old mic.old status.old }
 {
-    radio_read(frame, receivers, iq, mic, status)
+    returned(radio_read(frame, receivers, iq, mic, status))
 }
 
 #[unsafe(no_mangle)]
@@ -32,14 +34,14 @@ pub extern "C" fn hpsdr_radio_write(
 ) -> u32
     ensures { wrote result frame.new ≡ radio_write_of status.now word receivers iq.now mic.now frame.old }
 {
-    radio_write(status, word, receivers, iq, mic, frame)
+    number(radio_write(status, word, receivers, iq, mic, frame)) as u32
 }
 
 #[unsafe(no_mangle)]
 pub extern "C" fn hpsdr_status_fresh(status: &mut [u32]) -> u32
     ensures { wrote result status.new ≡ offered (status_cells fresh_status) status.old }
 {
-    status_fresh(status)
+    number(status_fresh(status)) as u32
 }
 
 // The row of a number of receivers: a slot's bytes, the slots of a frame, the bytes of padding.
@@ -47,5 +49,5 @@ pub extern "C" fn hpsdr_status_fresh(status: &mut [u32]) -> u32
 pub extern "C" fn hpsdr_layout(receivers: usize, row: &mut [u32]) -> u32
     ensures { wrote result row.new ≡ layout_of receivers row.old }
 {
-    layout_row(receivers, row)
+    number(layout_row(receivers, row)) as u32
 }
