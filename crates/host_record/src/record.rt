@@ -69,6 +69,7 @@ pub struct Front {
     pub c4: u8,
 }
 
+// No invariant holds its numbers, or those of `Front`, to their ranges: C lends any record, and a build refuses it.
 #[derive(Clone, Copy)]
 pub struct Host {
     pub mox: bool,

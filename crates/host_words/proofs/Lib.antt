@@ -1,5 +1,4 @@
 -- The laws of the words from the host: what each carries, and which records are the same.
-pub mod LowBits
 pub mod Heard
 pub mod Carries
 pub mod Sameness

@@ -5,35 +5,44 @@
 
 ghost use Rattle.std.specs.Prelude.{◌≡◌};
 ghost use Rattle.wire.specs.Answers.{first};
-ghost use Rattle.host_words.specs.Words.{hertz, controls_of, highpass_of, lowpass_of, front_of, unassigned, heard, after};
+ghost use Rattle.host_words.specs.Words.{address, hertz, controls_of, highpass_of, lowpass_of, front_of, unassigned, heard, after};
 
 use host_record::choices::{
     Antenna, Attenuator, Boards, Jack, Microphone, Relay, Source10, Source122, Speed,
 };
 use host_record::record::{Controls, Front, HighPass, Host, LowPass};
 use wire::control::Control;
+use wire::fields::{field, is_on};
 use wire::numbers::be32;
 use wire::{Answer, Cause, Refusal};
+
+// The number of the word that is carried, 0 to 127.
+pub fn address(c: Control) -> u8
+    ensures { result ≡ address c }
+{
+    field(c.c0, 7, 1)
+}
 
 // Whether the word that is carried sets an unassigned code or bit, and the first that it sets.
 pub fn reserved(c: Control) -> Answer
     ensures { result ≡ first (unassigned c) }
 {
-    match c.c0 / 2 % 128 {
-        0 if c.c1 / 4 % 4 == 3 => Err(Refusal::Reserved(Cause::Source10)),
-        0 if c.c4 % 4 == 3 => Err(Refusal::Reserved(Cause::Relay)),
-        9 if c.c4 / 128 % 2 == 1 => Err(Refusal::Reserved(Cause::Word9C4Bit7)),
-        10 if c.c1 / 128 % 2 == 1 => Err(Refusal::Reserved(Cause::Word10C1Bit7)),
+    match address(c) {
+        0 if field(c.c1, 3, 2) == 3 => Err(Refusal::Reserved(Cause::Source10)),
+        0 if field(c.c4, 1, 0) == 3 => Err(Refusal::Reserved(Cause::Relay)),
+        9 if is_on(c.c4, 7) => Err(Refusal::Reserved(Cause::Word9C4Bit7)),
+        10 if is_on(c.c1, 7) => Err(Refusal::Reserved(Cause::Word10C1Bit7)),
         _ => Ok(()),
     }
 }
 
 // The record after an accepted frame: what its word carries, and MOX.
+#[tactic(auto, unfolding(crate::specs::Words::heard))]
 pub fn next(c: Control, mut host: Host) -> Host
     ensures { result ≡ after c host }
 {
-    let address = c.c0 / 2 % 128;
-    host.mox = c.c0 % 2 == 1;
+    let address = address(c);
+    host.mox = is_on(c.c0, 0);
     match address {
         0 => host = settings(c, host),
         1 => host.transmitter = hertz(c),
@@ -51,29 +60,30 @@ pub fn next(c: Control, mut host: Host) -> Host
 }
 
 // What word 0 carries. MOX is as it was.
+#[tactic(auto, unfolding(crate::specs::Words::heard))]
 pub(crate) fn settings(c: Control, host: Host) -> Host
     ensures { result ≡ record (heard 0 c host) { mox = host.mox } }
 {
     let Control { c1, c2, c3, c4, .. } = c;
     Host {
-        speed: Speed::from(c1 % 4),
-        source10: Source10::try_from(c1 / 4 % 4).unwrap_or(host.source10),
-        source122: Source122::from(c1 / 16 % 2),
-        boards: Boards::from(c1 / 32 % 4),
-        microphone: Microphone::from(c1 / 128 % 2),
-        classe: c2 % 2 == 1,
-        outputs: c2 / 2 % 128,
-        attenuator: Attenuator::from(c3 % 4),
-        preamp: c3 / 4 % 2 == 1,
-        dither: c3 / 8 % 2 == 1,
-        random: c3 / 16 % 2 == 1,
-        antenna: Antenna::from(c3 / 32 % 4),
-        rxout: c3 / 128 % 2 == 1,
-        relay: Relay::try_from(c4 % 4).unwrap_or(host.relay),
-        duplex: c4 / 4 % 2 == 1,
-        receivers: c4 / 8 % 8 + 1,
-        timestamp: c4 / 64 % 2 == 1,
-        common: c4 / 128 % 2 == 1,
+        speed: Speed::from(field(c1, 1, 0)),
+        source10: Source10::try_from(field(c1, 3, 2)).unwrap_or(host.source10),
+        source122: Source122::from(field(c1, 4, 4)),
+        boards: Boards::from(field(c1, 6, 5)),
+        microphone: Microphone::from(field(c1, 7, 7)),
+        classe: is_on(c2, 0),
+        outputs: field(c2, 7, 1),
+        attenuator: Attenuator::from(field(c3, 1, 0)),
+        preamp: is_on(c3, 2),
+        dither: is_on(c3, 3),
+        random: is_on(c3, 4),
+        antenna: Antenna::from(field(c3, 6, 5)),
+        rxout: is_on(c3, 7),
+        relay: Relay::try_from(field(c4, 1, 0)).unwrap_or(host.relay),
+        duplex: is_on(c4, 2),
+        receivers: field(c4, 5, 3) + 1,
+        timestamp: is_on(c4, 6),
+        common: is_on(c4, 7),
         ..host
     }
 }
@@ -90,14 +100,14 @@ pub(crate) fn controls_of(c2: u8) -> Controls
     ensures { result ≡ controls_of c2 }
 {
     Controls {
-        boost: c2 % 2 == 1,
-        linein: c2 / 2 % 2 == 1,
-        filter: c2 / 4 % 2 == 1,
-        tuner: c2 / 8 % 2 == 1,
-        tune: c2 / 16 % 2 == 1,
-        board: c2 / 32 % 2 == 1,
-        manual: c2 / 64 % 2 == 1,
-        vna: c2 / 128 % 2 == 1,
+        boost: is_on(c2, 0),
+        linein: is_on(c2, 1),
+        filter: is_on(c2, 2),
+        tuner: is_on(c2, 3),
+        tune: is_on(c2, 4),
+        board: is_on(c2, 5),
+        manual: is_on(c2, 6),
+        vna: is_on(c2, 7),
     }
 }
 
@@ -105,14 +115,14 @@ pub(crate) fn highpass_of(c3: u8) -> HighPass
     ensures { result ≡ highpass_of c3 }
 {
     HighPass {
-        mhz13: c3 % 2 == 1,
-        mhz20: c3 / 2 % 2 == 1,
-        mhz9: c3 / 4 % 2 == 1,
-        mhz6: c3 / 8 % 2 == 1,
-        mhz1: c3 / 16 % 2 == 1,
-        bypass: c3 / 32 % 2 == 1,
-        amplifier: c3 / 64 % 2 == 1,
-        trdisabled: c3 / 128 % 2 == 1,
+        mhz13: is_on(c3, 0),
+        mhz20: is_on(c3, 1),
+        mhz9: is_on(c3, 2),
+        mhz6: is_on(c3, 3),
+        mhz1: is_on(c3, 4),
+        bypass: is_on(c3, 5),
+        amplifier: is_on(c3, 6),
+        trdisabled: is_on(c3, 7),
     }
 }
 
@@ -120,13 +130,13 @@ pub(crate) fn lowpass_of(c4: u8) -> LowPass
     ensures { result ≡ lowpass_of c4 }
 {
     LowPass {
-        m30: c4 % 2 == 1,
-        m60: c4 / 2 % 2 == 1,
-        m80: c4 / 4 % 2 == 1,
-        m160: c4 / 8 % 2 == 1,
-        m6: c4 / 16 % 2 == 1,
-        m12: c4 / 32 % 2 == 1,
-        m17: c4 / 64 % 2 == 1,
+        m30: is_on(c4, 0),
+        m60: is_on(c4, 1),
+        m80: is_on(c4, 2),
+        m160: is_on(c4, 3),
+        m6: is_on(c4, 4),
+        m12: is_on(c4, 5),
+        m17: is_on(c4, 6),
     }
 }
 
@@ -136,15 +146,15 @@ pub(crate) fn front_of(c: Control) -> Front
     let c1 = c.c1;
     let c2 = c.c2;
     Front {
-        preamp1: c1 % 2 == 1,
-        preamp2: c1 / 2 % 2 == 1,
-        preamp3: c1 / 4 % 2 == 1,
-        preamp4: c1 / 8 % 2 == 1,
-        jack: Jack::from(c1 / 16 % 2),
-        bias: c1 / 32 % 2 == 1,
-        pttdisabled: c1 / 64 % 2 == 1,
-        gain: c2 % 32,
-        c2top: c2 / 32 % 8,
+        preamp1: is_on(c1, 0),
+        preamp2: is_on(c1, 1),
+        preamp3: is_on(c1, 2),
+        preamp4: is_on(c1, 3),
+        jack: Jack::from(field(c1, 4, 4)),
+        bias: is_on(c1, 5),
+        pttdisabled: is_on(c1, 6),
+        gain: field(c2, 4, 0),
+        c2top: field(c2, 7, 5),
         c3: c.c3,
         c4: c.c4,
     }
