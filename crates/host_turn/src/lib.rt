@@ -36,7 +36,8 @@ pub fn out_of_range(host: Host) -> Answer
 }
 
 // Sync and C0 to C4 of the word that is due, over the start of a frame. One with no room for them is left as it
-// is, and so is any where the turn is above the last or a value is out of range.
+// is, and so is any where the turn is above the last or a value is out of range. The word that is due is a number, since
+// document 01 numbers the words.
 pub fn put_head(frame: &mut [u8], turn: u8, host: Host)
     ensures { frame.new ≡ begun turn host frame.old }
 {
