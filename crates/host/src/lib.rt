@@ -14,7 +14,7 @@ ghost use Rattle.host_words.specs.Words.{last_word};
 use host_record::record::Host;
 use host_samples::{read_slots, write_numbers};
 use host_turn::{LAST_WORD, out_of_range, put_head};
-use host_words::{next, reserved};
+use host_words::{address, next, reserved};
 use wire::control::Control;
 use wire::sync::{no_sync, sync_at};
 use wire::{Answer, Refusal};
@@ -35,7 +35,7 @@ pub fn read(frame: &[u8], audio: &mut [i16], host: Host) -> Result<Reading, Refu
     read_slots(&frame[8..], audio);
     let c = Control::of(frame);
     Ok(Reading {
-        address: c.c0 / 2 % 128,
+        address: address(c),
         host: next(c, host),
     })
 }
@@ -56,7 +56,7 @@ pub(crate) fn refusal(frame: &[u8], room: usize) -> Answer
     reserved(Control::of(frame))
 }
 
-// A host record and the word that is due, 0 to 10.
+// A host record and the word that is due, 0 to 10. No invariant says so: C lends any turn, and a build refuses it.
 #[derive(Clone, Copy)]
 pub struct Builder {
     pub host: Host,

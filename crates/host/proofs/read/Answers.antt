@@ -24,7 +24,7 @@ returns c =
     let good = accepted_good given.frame.now (length given.audio.now) passed in
     same_outcome
     refl
-    (ap address word)
+    (c.address.ensures ∙ ap address word)
     (c.next.ensures ∙ ap (λ w. after w given.host) word)
     (c.read_slots.ensures ∙ ap (λ p. slots_read p given.audio.now) (payload_part given.frame.now) ∙ all_read _ _ (is_whole _ _ (rw (length-drop 8 given.frame.now, good.long)) good.fits))
     ∙ sym (read_accepted _ _ _ passed)
