@@ -4,7 +4,8 @@ ghost use Rattle.host_from_cells.specs.FromCells.{source10_of, relay_of};
 
 use host_record::choices::{Relay, Source10};
 
-// The cells have been tested, so that no code is past its last.
+// The cells have been tested, so that no code is past its last. One function for each type: a generic one's contract would have
+// to speak of the type's own conversion, and would be longer than both.
 pub(crate) fn source10_of(code: u32) -> Source10
     ensures { result ≡ source10_of code }
 {

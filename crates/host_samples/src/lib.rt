@@ -47,7 +47,8 @@ pub(crate) fn read_slot(slot: &[u8; 8], out: &mut [i16])
 }
 
 // The payload's numbers, over the start of audio. Here and below the part that is written is taken by its place: what a
-// slice is after `chunks_exact_mut` or `as_chunks_mut` no contract says.
+// slice is after `chunks_exact_mut` or `as_chunks_mut` no contract says. The three loops over parts stand apart: the contract of
+// one over a closure would be longer than they are.
 pub fn read_slots(payload: &[u8], audio: &mut [i16])
     ensures { audio.new ≡ slots_read payload.now audio.old }
 {
