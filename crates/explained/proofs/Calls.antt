@@ -11,14 +11,9 @@ use Rattle.wire.proofs.Cases.{neither}
 use Rattle.text.specs.Put.{gave, put_of}
 use Rattle.text.proofs.Puts.{put_start}
 use Rattle.why.specs.declared.Reason.{Reason}
-use Rattle.why.specs.declared.Reason.TheVariants.{Inside}
 use Rattle.sentences.specs.Sentence.{no_reason}
 use Rattle.explained.specs.Shown.{no_place, shown_text, shown_of}
 use Rattle.explained.proofs.Lengths.{shown-length}
-
--- a frame that a place can be in begins at it or before it
-pub begins_before : (place : ℕ) (reason : Reason) (q : ℕ) → reason ≡ Inside q → no_reason place reason ≡ false → q ≤ place
-begins_before place reason q is can = ltb-false place q (rw is at can)
 
 module _ (input : List ℕ) (place : ℕ) (reason : Reason) where
   -- the place is the input's, and can have the reason

@@ -6,7 +6,7 @@ use native.Mathlib.Nat.{add-sub_cancel_left}
 use native.Mathlib.Numerals.{add-one}
 use native.Mathlib.Omega.{arith}
 use borrow.Author.Tests.{lt-ltb, le-ltb}
-use borrow.Rule.Slice.PartMut.{put_mid, mid_of, mid_len}
+use borrow.Rule.Slice.PartMut.{put_mid}
 use lib.ListN.{length, get_or, take, drop, set, length-append, length-drop}
 use lib.Seq.{sets-eq, take_all, drop-drop, length-take-le}
 use Rattle.wire.proofs.Lists.{sets-all}
@@ -57,10 +57,6 @@ module _ (frame out : List ℕ) (k : ℕ) {mid : List ℕ} (so_far : Put out 0 (
 
 pub frame-length : (s : List ℕ) (t : ℕ) → t * 512 + 512 ≤ length s → length (frame_at s t) ≡ 512
 frame-length s t inside = length-take-le 512 (drop (t * 512) s) (rw (length-drop (t * 512) s) (omega arith))
-
--- the parts that are lent for a line
-pub part_length : (a k : ℕ) (xs : List ℕ) → a + k ≤ length xs → length (mid_of a (a + k - a) xs) ≡ k
-part_length a k xs inside = mid_len a (a + k) xs inside ∙ add-sub_cancel_left a k
 
 pub no_lines : (frames out : List ℕ) → Put out 0 (lines_of 0 frames) (0 * 1025) out
 unfolding lines_of

@@ -76,9 +76,6 @@ pub record Reading (chunk : List ℕ) (given r : Reader) (at : ℕ) : Type 0 whe
   pub same : take_from at r (drop at chunk) ≡ take_of given chunk
 
 module _ (chunk : List ℕ) (given : Reader) where
-  pub reading_starts : Reading chunk given given 0
-  reading_starts = record { inside = omega arith; same = refl }
-
   module _ (r : Reader) (at : ℕ) (so_far : Reading chunk given r at) where
     pub reading_ends : length chunk ≤ at → record { reader = r; used = length chunk; line = Unfinished } ≡ take_of given chunk
     reading_ends over =

@@ -11,24 +11,12 @@ module _ (low high b : ℕ) where
   inside : low ≤ b → b ≤ high → among low high b ≡ true
   inside from to = rw (le-leb _ _ from, le-leb _ _ to)
 
-  below : b < low → among low high b ≡ false
-  below under = rw (lt-leb _ _ under)
-
   above : high < b → among low high b ≡ false
   above over = rw (lt-leb _ _ over) (and-false (leb low b))
 
 module _ (b : ℕ) where
-  pub before_digits : b < 0x30 → value_of b ≡ 16
-  before_digits h = rw (below 0x30 0x39 b h, below 0x61 0x66 b (omega arith))
-
   pub decimal_digit : 0x30 ≤ b → b ≤ 0x39 → value_of b ≡ b - 0x30
   decimal_digit from to = rw (inside 0x30 0x39 b from to)
 
-  pub between_digits : 0x39 < b → b < 0x61 → value_of b ≡ 16
-  between_digits over under = rw (above 0x30 0x39 b over, below 0x61 0x66 b under)
-
   pub letter_digit : 0x61 ≤ b → b ≤ 0x66 → value_of b ≡ b - 0x61 + 10
   letter_digit from to = rw (above 0x30 0x39 b (omega arith), inside 0x61 0x66 b from to)
-
-  pub after_digits : 0x66 < b → value_of b ≡ 16
-  after_digits over = rw (above 0x30 0x39 b (omega arith), above 0x61 0x66 b over)

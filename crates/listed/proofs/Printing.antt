@@ -6,7 +6,7 @@ use Prim.Native.Nat.{ℕ, ◌+◌, ◌-◌, ◌≤◌}
 use native.Mathlib.Nat.{add-zero}
 use native.Mathlib.Omega.{arith}
 use borrow.Author.Tests.{lt-ltb, le-ltb}
-use borrow.Rule.Slice.PartMut.{put_mid, Post-is, same_len_mid}
+use borrow.Rule.Slice.PartMut.{put_mid, Post-is}
 use lib.IntN.{ℤ, pos}
 use lib.ListN.{length, take, drop, replicate, take-append-drop, length-append, length-drop}
 use lib.Seq.{take_all, drop-drop, drop-length, length-take-le}
@@ -95,11 +95,6 @@ module _ (at : ℕ) (text out : List ℕ) where
       let nothing : mid ++ drop (length out - at) (drop at out) ≡ mid =
       ap (λ l. mid ++ l) (Post-is at (length out) out within ∙ drop-length out) ∙ append-nil mid in
       ap (λ l. gave (at + r) (take at out ++ l)) nothing ∙ ap onward (e ∙ ap (printed text) rest) ∙ at_place within
-
-  pub behind_inside : (r : ℕ) (mid : List ℕ) → at ≤ length out → gave r mid ≡ printed text (take (length out - at) (drop at out))
-      → length mid ≡ length (take (length out - at) (drop at out)) → at + r ≤ length out
-  behind_inside r mid within e kept =
-      inside (at + r) (put_mid at (length out - at) out mid) (behind r mid within e) (same_len_mid at (length out - at) out mid kept) within
 
 -- what a caller of `row` may count on: the next place is within the slice
 pub row_inside : (t : Taken) (at : ℕ) (out : List ℕ) (r : ℕ) (after : List ℕ) → gave r after ≡ row_at t at out → length after ≡ length out → at ≤ length out → r ≤ length after

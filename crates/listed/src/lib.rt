@@ -15,6 +15,7 @@ use hexline::print::Columns;
 use hexline::{Line, Taken, print};
 use radio_status::record::Status;
 use wire::Refusal;
+use wire::fields::field;
 
 // Writes the row of the line that ended, if one did, at a place of out, and answers the place after
 // it. With less than 64 bytes from that place on, out stays as it is and the answer is the place.
@@ -32,10 +33,9 @@ pub(crate) fn start(taken: Taken, out: &mut [u8]) -> usize
     ensures { gave result out.new ≡ printed (rows_of (found_by taken)) out.old }
 {
     let reader = taken.reader;
-    let frame = reader.frame;
     let read = match taken.line {
         Line::Unfinished => return 0,
-        Line::Frame => shown(&frame),
+        Line::Frame => shown(&reader.frame),
         Line::Length => Err(Refusal::Length),
     };
     print::row(reader.number, read, out)
@@ -51,7 +51,7 @@ pub(crate) fn shown(frame: &[u8; 512]) -> Result<Columns, Refusal>
     let reading = radio::read(frame, 1, &mut iq, &mut mic, Status::fresh())?;
     let status = reading.status;
     Ok(Columns {
-        address: frame[3] / 8 % 32,
+        address: field(frame[3], 7, 3),
         dot: status.dot,
         dash: status.dash,
         ptt: status.ptt,

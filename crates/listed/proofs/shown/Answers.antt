@@ -10,4 +10,4 @@ returns-in_err-reading c =
     λ number. rw (p.1, p.2) (columns_refused number _ left.iq left.mic _ c.fresh.ensures c.read.result _ c.in_err-reading.was c.read.ensures)
 
 pub returns : goal.returns
-returns c = let left = c.read.new in λ number. columns_read number _ left.iq left.mic _ c.fresh.ensures c.read.result _ c.in_ok-reading.was c.read.ensures
+returns c = let left = c.read.new in λ number. rw c.field.ensures (columns_read number _ left.iq left.mic _ c.fresh.ensures c.read.result _ c.in_ok-reading.was c.read.ensures)
