@@ -8,7 +8,7 @@
 mod parts;
 pub mod scan;
 
-ghost use Rattle.std.specs.Prelude.{◌≡◌, ◌++◌, length, Ok};
+ghost use Rattle.std.specs.Prelude.{◌≡◌, [], ◌∷◌, ◌++◌, length, get_or, Ok};
 ghost use Rattle.wire.specs.Answers.{first};
 ghost use Rattle.reading.specs.Reading.{reading};
 ghost use Rattle.stream.specs.Record.{fresh_of, sound_of, held_bytes};
@@ -44,6 +44,33 @@ pub struct Counts {
     pub total: u64,
 }
 
+// Each in a cell of its own, in this order.
+impl From<[u64; 4]> for Counts {
+    ghost from_gives = { λ cells counts. counts ≡ record { count = get_or cells 0 0; frames = get_or cells 1 0; skipped = get_or cells 2 0; total = get_or cells 3 0 } };
+
+    fn from(cells: [u64; 4]) -> Counts {
+        Counts {
+            count: cells[0] as usize,
+            frames: cells[1],
+            skipped: cells[2],
+            total: cells[3],
+        }
+    }
+}
+
+impl From<Counts> for [u64; 4] {
+    ghost from_gives = { λ counts cells. cells ≡ counts.count ∷ counts.frames ∷ counts.skipped ∷ counts.total ∷ [] };
+
+    fn from(counts: Counts) -> [u64; 4] {
+        [
+            counts.count as u64,
+            counts.frames,
+            counts.skipped,
+            counts.total,
+        ]
+    }
+}
+
 // What an accepted call gives back: the frames are those handed out in this call.
 #[derive(Clone, Copy)]
 pub struct Fed {
@@ -71,7 +98,7 @@ impl Stream {
         is_sound(self.counts(), &self.held)
     }
 
-    pub(crate) fn counts(self) -> Counts
+    pub fn counts(self) -> Counts
         ensures { result ≡ record { count = self.count; frames = self.frames; skipped = self.skipped; total = self.total } }
     {
         Counts {
@@ -116,7 +143,7 @@ impl Stream {
 }
 
 // Whether a record of these numbers and cells is one that a reading can have left. A damaged one may hold
-// any numbers, so the sum is taken only where it cannot wrap.
+// any numbers, so the sum is taken only where it cannot wrap. Only this and `answer_of` take the two, which are lent apart.
 pub fn is_sound(counts: Counts, held: &[u8]) -> bool
     ensures { result ≡ sound_of (record { held = held.now; count = counts.count; frames = counts.frames; skipped = counts.skipped; total = counts.total }) }
 {

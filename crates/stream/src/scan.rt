@@ -17,7 +17,7 @@ pub struct Scanned {
 }
 
 impl<'a> Joined<'a> {
-    // Whether sync stands at a place.
+    // Whether sync stands at a place: `wire::sync::sync_at` has one slice, and this two.
     pub(crate) fn sync(&self, place: usize) -> bool
         requires { place + 3 ≤ length (bytes self.now) }
         ensures { result ≡ sync_at (bytes self.now) place }

@@ -10,7 +10,7 @@ ghost use Rattle.wire.specs.Answers.{Accepted};
 ghost use Rattle.wire.specs.declared.Refusal.TheVariants.{BadState};
 ghost use Rattle.stream_cells.specs.Stream.{lent, stream_in, put_in};
 
-use stream::Stream;
+use stream::{Counts, Stream};
 use wire::{Answer, Refusal};
 
 // The cells of a record, where there are as many as one takes: its four counts, and the bytes that may be held.
@@ -28,12 +28,13 @@ pub fn stream_in(counts: &[u64], held: &[u8]) -> Stream
     let Some((counts, held)) = room(counts, held) else {
         return Stream::fresh();
     };
+    let given = Counts::from(*counts);
     Stream {
         held: *held,
-        count: counts[0] as usize,
-        frames: counts[1],
-        skipped: counts[2],
-        total: counts[3],
+        count: given.count,
+        frames: given.frames,
+        skipped: given.skipped,
+        total: given.total,
     }
 }
 
@@ -48,12 +49,7 @@ pub fn put_stream(stream: Stream, counts: &mut [u64], held: &mut [u8]) -> Answer
     let Some(held) = held.first_chunk_mut::<514>() else {
         return Err(Refusal::BadState);
     };
-    *counts = [
-        stream.count as u64,
-        stream.frames,
-        stream.skipped,
-        stream.total,
-    ];
+    *counts = stream.counts().into();
     let bytes = stream.held;
     *held = bytes;
     Ok(())

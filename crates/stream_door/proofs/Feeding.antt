@@ -119,14 +119,13 @@ module _ (counts held piece output : List ℕ) (four : 4 ≤ length counts) (lon
       by_outcome record_of piece output (λ (o : Feed.Outcome). length o.next.held ≡ 514) (λ refusal some. length-take-le 514 held long)
       (λ passes. length-cells 514 (reading (held_bytes record_of ++ piece)).left (counted (held_bytes record_of ++ piece)).few)
 
-  pub feeds_first : (first-counts first-held : List ℕ) → first-counts ≡ take 4 counts → first-held ≡ take 514 held → (number k : ℕ) → number ≡ k → (c h exit : List ℕ) → gave k c h exit ≡ shown first-counts first-held (feed_of (stream_of first-counts first-held) piece output) → gave number (c ++ drop 4 counts) (h ++ drop 514 held) exit ≡ shown counts held (feed_of record_of piece output)
-  feeds_first first-counts first-held counts-are held-is number k number-is c h exit is =
+  pub feeds_first : (first-counts first-held : List ℕ) → first-counts ≡ take 4 counts → first-held ≡ take 514 held → (k : ℕ) (c h exit : List ℕ) → gave k c h exit ≡ shown first-counts first-held (feed_of (stream_of first-counts first-held) piece output) → gave k (c ++ drop 4 counts) (h ++ drop 514 held) exit ≡ shown counts held (feed_of record_of piece output)
+  feeds_first first-counts first-held counts-are held-is k c h exit is =
       let o = feed_of record_of piece output in
       let parts : shown first-counts first-held (feed_of (stream_of first-counts first-held) piece output) ≡ shown (take 4 counts) (take 514 held) (feed_of (stream_of (take 4 counts) (take 514 held)) piece output) =
       (λ i. shown (counts-are i) (held-is i) (feed_of (stream_of (counts-are i) (held-is i)) piece output)) in
       let found = is ∙ parts ∙ ap (λ (s : Stream). shown (take 4 counts) (take 514 held) (feed_of s piece output)) first_record in
       let all-counts = kept_first o.answer (counts_of o.next) counts 4 refl four in
       let all-held = kept_first o.answer o.next.held held 514 next_long long in
-      ap (λ n. gave n (c ++ drop 4 counts) (h ++ drop 514 held) exit) number-is
-      ∙ ap (λ (g : Outcome). gave g.number (g.counts ++ drop 4 counts) (g.held ++ drop 514 held) g.output) found
+      ap (λ (g : Outcome). gave g.number (g.counts ++ drop 4 counts) (g.held ++ drop 514 held) g.output) found
       ∙ (λ i. gave (got (number_of o.answer) o.frames) (all-counts i) (all-held i) o.output)

@@ -1,5 +1,5 @@
 -- Bytes in cells that are lent: what is left over what was held, and zeros behind it. Assumes nothing.
-use mathlib.Core.Path.{◌≡◌, sym, ap, ◌∙◌, subst}
+use mathlib.Core.Path.{◌≡◌, refl, sym, ap, ◌∙◌, subst}
 use mathlib.Core.Bool.{true}
 use mathlib.Core.List.{List, ◌++◌, append_assoc}
 use Prim.Native.Nat.{ℕ, ◌+◌, ◌-◌, ◌<◌, ◌≤◌}
@@ -9,8 +9,10 @@ use borrow.Rule.Slice.PartMut.{put_mid}
 use lib.ListN.{length, take, drop, replicate, length-append, length-drop, length-replicate, replicate-append-replicate, take-append-drop}
 use lib.Seq.{drop-drop, take_all, length-take-le, drop-append-le, drop-append-add, sets, sets-eq, length-sets}
 use Rattle.std.proofs.lemmas.List.{drop-take}
+use Rattle.std.proofs.lemmas.List.Edits.{paste_all}
+use Rattle.std.proofs.lemmas.Slice.{put_mid-paste}
 use Rattle.std.specs.List.{copy_within}
-use Rattle.wire.proofs.Copies.{written, all_written, copied_over}
+use Rattle.wire.proofs.Copies.{written, all_written}
 use Rattle.wire.proofs.Everywhere.{zeros_are}
 use Rattle.wire.proofs.Lists.{sets-append}
 use Rattle.wire.specs.Every.{all_zero}
@@ -62,17 +64,21 @@ cells_zeros n front k fit =
 
 -- ---- cells of which those past what is held are zero
 
+there : (count m : ℕ) → count ≤ m → count + (m - count) ≡ m
+there count m low = omega arith
+
+behind : (all count m : ℕ) → count ≤ m → all - count - (m - count) ≡ all - m
+behind all count m low = omega arith
+
 module _ (held : List ℕ) (count : ℕ) (long : length held ≡ 514) (few : count ≤ 514) (clean : all_zero (drop count held) ≡ true) where
   free : (m : ℕ) → count ≤ m → drop m held ≡ replicate (514 - m) 0
   free m low =
-      let past : count + (m - count) ≡ m = omega arith in
       let size : length (drop count held) ≡ 514 - count = length-drop count held ∙ ap (λ n. n - count) long in
-      let left : 514 - count - (m - count) ≡ 514 - m = omega arith in
-      ap (λ n. drop n held) (sym past)
+      ap (λ n. drop n held) (sym (there count m low))
       ∙ sym (drop-drop (m - count) count held)
       ∙ ap (drop (m - count)) (zeros_are (drop count held) clean ∙ ap (λ n. replicate n 0) size)
       ∙ drop-replicate (m - count) (514 - count) 0
-      ∙ ap (λ n. replicate n 0) left
+      ∙ ap (λ n. replicate n 0) (behind 514 count m low)
 
   -- over them as many bytes as were held, or more
   over_all : (bytes : List ℕ) → count ≤ length bytes → length bytes ≤ 514 → sets held 0 bytes ≡ cells 514 bytes
@@ -87,8 +93,10 @@ module _ (held : List ℕ) (count : ℕ) (long : length held ≡ 514) (few : cou
       let size : length none ≡ count - length front = length-replicate {A = ℕ} (count - length front) 0 in
       let room : length front + length none ≤ length (sets held 0 front) = omega (arith, length-sets held 0 front) in
       let sum = length-append front none in
-      copied_over (sets held 0 front) (length front) none zeros (count - length front) are (sym size) room
-      ∙ all_written (sets held 0 front) (length front) none room
+      put_mid-paste (length front) (count - length front) (sets held 0 front) zeros none (length none) are size refl
+      ∙ paste_all (sets held 0 front) (length front) none (length none) refl
+      ∙ sym (append_assoc (take (length front) (sets held 0 front)) none (drop (length front + length none) (sets held 0 front)))
+      ∙ sym (sets-eq none (sets held 0 front) (length front) room)
       ∙ sets_then held front none
       ∙ over_all (front ++ none) (omega arith) (omega arith)
       ∙ cells_zeros 514 front (count - length front) (omega arith)

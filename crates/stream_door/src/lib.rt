@@ -4,7 +4,7 @@
 
 mod held;
 
-ghost use Rattle.std.specs.Prelude.{◌≡◌, get_or};
+ghost use Rattle.std.specs.Prelude.{◌≡◌};
 ghost use Rattle.wire.specs.Answers.{number_of};
 ghost use Rattle.stream.specs.Feed.{feed_of};
 ghost use Rattle.stream_cells.specs.Stream.{stream_of};
@@ -62,26 +62,17 @@ pub(crate) fn feed(
 ) -> Result<u8, Refusal>
     ensures { gave (got_by result) counts.new held.new output.new ≡ shown counts.old held.old (feed_of (stream_of counts.old held.old) piece.now output.old) }
 {
-    let given = numbers(counts);
+    let given = Counts::from(*counts);
     answer_of(given, held, piece.len(), output.len())?;
     let scanned = scan(&held[..given.count], piece, output);
     hold(held, given.count, piece, scanned.place);
-    *counts = [
-        (given.count + piece.len() - scanned.place) as u64,
-        given.frames + scanned.frames as u64,
-        given.skipped + scanned.skipped as u64,
-        given.total + piece.len() as u64,
-    ];
+    // `Stream::feed` has the same sums: a function of both would be public, and could not ask that they fit.
+    let next = Counts {
+        count: given.count + piece.len() - scanned.place,
+        frames: given.frames + scanned.frames as u64,
+        skipped: given.skipped + scanned.skipped as u64,
+        total: given.total + piece.len() as u64,
+    };
+    *counts = next.into();
     Ok(scanned.frames as u8)
-}
-
-pub(crate) fn numbers(counts: &[u64; 4]) -> Counts
-    ensures { result ≡ record { count = get_or counts.now 0 0; frames = get_or counts.now 1 0; skipped = get_or counts.now 2 0; total = get_or counts.now 3 0 } }
-{
-    Counts {
-        count: counts[0] as usize,
-        frames: counts[1],
-        skipped: counts[2],
-        total: counts[3],
-    }
 }

@@ -1,16 +1,13 @@
 -- Bytes over others: where they fit and where they do not, and what stands before and behind them. Assumes nothing.
-use mathlib.Core.Path.{◌≡◌, refl, sym, ap, ◌∙◌}
+use mathlib.Core.Path.{◌≡◌, ap, ◌∙◌}
 use mathlib.Core.Bool.{cond}
-use mathlib.Core.List.{List, ◌++◌, append_assoc}
+use mathlib.Core.List.{List, ◌++◌}
 use Prim.Native.Nat.{ℕ, ◌+◌, ◌<◌, ◌≤◌}
 use native.Mathlib.Omega.{arith}
 use borrow.Author.Tests.{le-leb, lt-leb}
 use lib.Dec.{leb}
 use lib.ListN.{length, take, drop, length-append}
 use lib.Seq.{length-take-le, take_at, drop_at, sets, sets-eq}
-use borrow.Rule.Slice.PartMut.{put_mid}
-use Rattle.std.proofs.lemmas.List.Edits.{paste_all}
-use Rattle.std.proofs.lemmas.Slice.{put_mid-paste}
 
 module _ {A : Type 0} (to : List A) (place : ℕ) (from : List A) where
   abbrev pub written : List A
@@ -18,15 +15,6 @@ module _ {A : Type 0} (to : List A) (place : ℕ) (from : List A) where
 
   pub all_written : place + length from ≤ length to → written ≡ sets to place from
   all_written fits = rw (le-leb (place + length from) (length to) fits)
-
-  -- what is copied over the part from a place on
-  pub copied_over : (copied : List A) (k : ℕ) → copied ≡ from → k ≡ length from → place + length from ≤ length to → put_mid place k to copied ≡ written
-  copied_over copied k same long fits =
-      put_mid-paste place k to copied from (length from) same (sym long) refl
-      ∙ paste_all to place from (length from) refl
-      ∙ sym (append_assoc (take place to) from (drop (place + length from) to))
-      ∙ sym (sets-eq from to place fits)
-      ∙ sym (all_written fits)
 
   pub none_written : length to < place + length from → to ≡ written
   none_written over = rw (lt-leb (place + length from) (length to) over)

@@ -19,4 +19,4 @@ pub returns : goal.returns
 returns c =
     let room = there_are c.args.counts.now c.args.held.now c.in-Some.ensures.cases.enough c.in-Some-first_chunk_mut.ensures.cases.enough in
     let full : length c.args.stream.held ≡ 514 = search rules in
-    record { answer = rw room; cells = sym (put_over _ _ c.args.stream room full) }
+    record { answer = rw room; cells = rw (c.into.ensures, c.counts.ensures) (sym (put_over _ _ c.args.stream room full)) }

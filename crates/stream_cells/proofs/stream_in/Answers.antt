@@ -9,4 +9,4 @@ returns-in_default c = c.fresh.ensures ∙ sym (stream_few _ _ (sym c.in_default
 pub returns : goal.returns
 returns c =
     let cells = c.in-Some.ensures in
-    rw cells.cells.1 (sym (stream-held c.args.counts.now c.args.held.now (sym cells.some) ∙ of_first _ _ c.in-Some.counts.now cells.cells.0))
+    rw (cells.cells.1, c.from-given.ensures) (sym (stream-held c.args.counts.now c.args.held.now (sym cells.some) ∙ of_first _ _ c.in-Some.counts.now cells.cells.0))

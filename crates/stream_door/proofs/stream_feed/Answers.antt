@@ -1,5 +1,5 @@
 -- `stream_door::stream_feed` meets its contract: no cells for a record, or a feed of the first of them. Assumes nothing.
-use mathlib.Core.Path.{refl, sym, ap, ◌∙◌}
+use mathlib.Core.Path.{sym, ap, ◌∙◌}
 use mathlib.Core.List.{◌++◌}
 use lib.ListN.{drop, take-append-drop}
 use Rattle.cells.specs.Cells.{bad_state}
@@ -24,5 +24,5 @@ returns c =
     let given = c.args in
     let counts = c.in-Some.ensures.cases in
     let held = c.in-Some-first_chunk_mut.ensures.cases in
-    feeds_first given.counts.now given.held.now given.piece.now given.output.now counts.enough held.enough _ _ counts.same held.same _ _ refl _ _ _ c.feed.ensures
+    feeds_first given.counts.now given.held.now given.piece.now given.output.now counts.enough held.enough _ _ counts.same held.same _ _ _ _ c.feed.ensures
     ∙ sym (feed_good _ _ _ _ (there_are given.counts.now given.held.now counts.enough held.enough))
