@@ -20,19 +20,19 @@ pub extern "C" fn hpsdr_host_read(frame: &[u8], audio: &mut [i16], host: &mut [u
 pub extern "C" fn hpsdr_build(builder: &mut [u32], audio: &[i16], frame: &mut [u8]) -> u32
     ensures { built result builder.new frame.new ≡ host_build_of builder.old audio.now frame.old }
 {
-    number(build(builder, audio, frame)) as u32
+    u32::from(number(build(builder, audio, frame)))
 }
 
 #[unsafe(no_mangle)]
 pub extern "C" fn hpsdr_host_fresh(host: &mut [u32]) -> u32
     ensures { wrote result host.new ≡ offered (host_cells fresh) host.old }
 {
-    number(host_fresh(host)) as u32
+    u32::from(number(host_fresh(host)))
 }
 
 #[unsafe(no_mangle)]
 pub extern "C" fn hpsdr_builder_fresh(builder: &mut [u32]) -> u32
     ensures { wrote result builder.new ≡ offered (host_cells fresh ++ (0 ∷ [])) builder.old }
 {
-    number(builder_fresh(builder)) as u32
+    u32::from(number(builder_fresh(builder)))
 }

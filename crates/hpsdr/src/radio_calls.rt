@@ -34,14 +34,14 @@ pub extern "C" fn hpsdr_radio_write(
 ) -> u32
     ensures { wrote result frame.new ≡ radio_write_of status.now word receivers iq.now mic.now frame.old }
 {
-    number(radio_write(status, word, receivers, iq, mic, frame)) as u32
+    u32::from(number(radio_write(status, word, receivers, iq, mic, frame)))
 }
 
 #[unsafe(no_mangle)]
 pub extern "C" fn hpsdr_status_fresh(status: &mut [u32]) -> u32
     ensures { wrote result status.new ≡ offered (status_cells fresh_status) status.old }
 {
-    number(status_fresh(status)) as u32
+    u32::from(number(status_fresh(status)))
 }
 
 // The row of a number of receivers: a slot's bytes, the slots of a frame, the bytes of padding.
@@ -49,5 +49,5 @@ pub extern "C" fn hpsdr_status_fresh(status: &mut [u32]) -> u32
 pub extern "C" fn hpsdr_layout(receivers: usize, row: &mut [u32]) -> u32
     ensures { wrote result row.new ≡ layout_of receivers row.old }
 {
-    number(layout_row(receivers, row)) as u32
+    u32::from(number(layout_row(receivers, row)))
 }

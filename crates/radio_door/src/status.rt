@@ -17,7 +17,9 @@ const MOST: [u32; 26] = [
     255, 255, 255, 255,
 ];
 
-// The record that the cells are, or BAD_STATE where they can be none.
+// The record that the cells are, or BAD_STATE where they can be none. In line no record is laid in memory, and none is
+// made for a frame that is refused.
+#[inline(always)]
 #[tactic(auto, using(crate::proofs::StatusCases::from_bad, crate::proofs::StatusCases::from_good))]
 pub fn status_from(cells: &[u32]) -> Result<Status, Refusal>
     ensures { result ≡ status_from cells.now }
@@ -29,6 +31,7 @@ pub fn status_from(cells: &[u32]) -> Result<Status, Refusal>
 }
 
 // The record that the cells are; too few of them give a fresh one.
+#[inline(always)]
 #[tactic(auto, using(crate::proofs::StatusCases::status_few, crate::proofs::StatusCases::status_first))]
 pub fn status_in(cells: &[u32]) -> Status
     ensures { result ≡ status_in cells.now }
