@@ -79,7 +79,7 @@ pub(crate) fn write_value(x: i32, part: &mut [u8], at: usize)
     requires { at + 3 ≤ length part.old }
     ensures { part.new ≡ sets part.old at (bytes_of 3 (unsigned 24 x)) }
 {
-    let b = bytes_of_sample24(x);
+    let b = bytes_of_sample24(x).bytes;
     part[at] = b[0];
     part[at + 1] = b[1];
     part[at + 2] = b[2];

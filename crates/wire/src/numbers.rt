@@ -10,6 +10,13 @@ pub type Bytes3 = [u8; 3];
 
 pub type Bytes4 = [u8; 4];
 
+// The bytes of a 24-bit sample, and whether the number that was given fits them.
+#[derive(Clone, Copy)]
+pub struct Written24 {
+    pub fits: bool,
+    pub bytes: Bytes3,
+}
+
 // `be16` and `be32`, and the two ways back, stand for the library's byte orders of their widths, each a method of its own
 // type; here they say what document 01 says of the bytes, `be` and `bytes_of`, over any width.
 pub fn be16(a: u8, b: u8) -> u16
@@ -57,12 +64,15 @@ pub fn bytes_of_sample16(x: i16) -> Bytes2
     bytes_of_u16(pattern(x as i32, 0x1_0000) as u16)
 }
 
-// The three bytes hold x where it fits, as `fits24` has it, and its lowest 24 bits where it does not.
-pub fn bytes_of_sample24(x: i32) -> Bytes3
-    ensures { result ≡ bytes_of 3 (unsigned 24 x) }
+// The three bytes hold x where it fits, and its lowest 24 bits where it does not.
+pub fn bytes_of_sample24(x: i32) -> Written24
+    ensures { result ≡ record { fits = fits 24 x; bytes = bytes_of 3 (unsigned 24 x) } }
 {
     let [_, high, mid, low] = pattern(x, 0x100_0000).to_be_bytes();
-    [high, mid, low]
+    Written24 {
+        fits: fits24(x),
+        bytes: [high, mid, low],
+    }
 }
 
 // Whether x is in -8,388,608 to 8,388,607.
