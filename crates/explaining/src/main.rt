@@ -9,7 +9,8 @@
 mod recording;
 
 ghost use Rattle.std.specs.Prelude.{◌≡◌, ◌≤◌, length, IfOk, IfErr};
-ghost use Rattle.explaining.specs.Told.{told_in, place_told, line_in, run_told};
+ghost use Rattle.text.specs.Put.{gave};
+ghost use Rattle.explaining.specs.Told.{told_in, place_told, complaint_of, line_in, run_told};
 
 use recording::Recording;
 use std::env::{Env, FillError};
@@ -36,30 +37,35 @@ struct Line {
 }
 
 fn main(rt: HostRuntime) {
+    let input = &mut rt.stdin();
+    let output = &mut rt.stdout();
+    if let Err(failure) = answer(&rt, input, output) {
+        complain(&mut rt.stderr(), failure);
+    }
+}
+
+// Tells what is asked for.
+fn answer(env: &impl Env, input: &mut impl Read, output: &mut impl Write) -> Result<(), Failure> {
+    let place = asked(env)?;
+    read_and_tell(input, output, place)
+}
+
+// The recording has its room only here, behind the look at the arguments: refused ones take a small stack. The text's buffer
+// takes the input's pieces first.
+#[inline(never)]
+fn read_and_tell(
+    input: &mut impl Read,
+    output: &mut impl Write,
+    place: Option<u64>,
+) -> Result<(), Failure> {
     let mut recording = Recording {
         bytes: [0u8; 65536],
         count: 0,
     };
     let mut text = [0u8; 4096];
-    let input = &mut rt.stdin();
-    let output = &mut rt.stdout();
-    if let Err(failure) = answer(&rt, input, output, &mut recording, &mut text) {
-        complain(&mut rt.stderr(), failure);
-    }
-}
-
-// Tells what is asked for. The text's buffer takes the input's pieces first.
-fn answer(
-    env: &impl Env,
-    input: &mut impl Read,
-    output: &mut impl Write,
-    recording: &mut Recording,
-    text: &mut [u8],
-) -> Result<(), Failure> {
-    let place = asked(env)?;
-    recording.gather(input, text)?;
+    recording.gather(input, &mut text)?;
     let count = recording.count;
-    tell(output, place, &recording.bytes[..count], text)
+    tell(output, place, &recording.bytes[..count], &mut text)
 }
 
 // The place that is asked about. None asks about everything.
@@ -156,12 +162,23 @@ fn complain(errors: &mut impl Write, failure: Failure) {
         ),
         Failure::Input => say(errors, b"why: the input cannot be read\n"),
         Failure::TooLong => say(errors, b"why: the input is longer than 65,536 bytes\n"),
-        Failure::PastEnd(length) => {
+        Failure::PastEnd(_) => {
             let mut line = [0u8; sentences::LINE];
-            let count = sentences::past_end(length, &mut line);
+            let count = complaint(failure, &mut line);
             say(errors, &line[..count]);
         }
         Failure::Output => say(errors, b"why: the output cannot be written\n"),
+    }
+}
+
+// The line for a place past the end, at the start of a buffer. The others are texts that nothing is put into.
+fn complaint(failure: Failure, out: &mut [u8]) -> usize
+    ensures count_in_bounds { result ≤ length out.new }
+    ensures out_after { gave result out.new ≡ complaint_of failure out.old }
+{
+    match failure {
+        Failure::PastEnd(length) => sentences::past_end(length, out),
+        _ => 0,
     }
 }
 

@@ -16,10 +16,18 @@ pub(crate) struct Recording {
 impl Recording {
     ghost use Rattle.explaining.specs.Gathered.{so_far, gone_on, kept_by, appended, AppendsSome, Gathers};
 
+    // The whole input, in the place of what was there.
+    pub(crate) fn gather<R: Read>(&mut self, input: &mut R, chunk: &mut [u8]) -> Result<(), Failure>
+        ensures all_read { 0 < length chunk.old → OnOk result (IfSome (R.remaining input.old) (λ bytes. so_far self.new ≡ bytes)) }
+    {
+        self.count = 0;
+        self.gather_on(input, chunk)
+    }
+
     // Reads the input to its end. A proved loop has to end, and nothing says that an input does. So the
     // reads are counted, up to a number that no run comes to: each but the last gives a byte, and there is
     // room for 65,536.
-    pub(crate) fn gather<R: Read>(&mut self, input: &mut R, chunk: &mut [u8]) -> Result<(), Failure>
+    fn gather_on<R: Read>(&mut self, input: &mut R, chunk: &mut [u8]) -> Result<(), Failure>
         ensures all_read { 0 < length chunk.old → OnOk result (IfSome (R.remaining input.old) (λ bytes. so_far self.new ≡ so_far self.old ++ bytes)) }
     {
         for _ in 0..u64::MAX {
