@@ -4,7 +4,7 @@
 
 mod held;
 
-ghost use Rattle.std.specs.Prelude.{◌≡◌};
+ghost use Rattle.std.specs.Prelude.{◌≡◌, [], ◌∷◌, get_or};
 ghost use Rattle.wire.specs.Answers.{number_of};
 ghost use Rattle.stream.specs.Feed.{feed_of};
 ghost use Rattle.stream_cells.specs.Stream.{stream_of};
@@ -62,7 +62,7 @@ pub(crate) fn feed(
 ) -> Result<u8, Refusal>
     ensures { gave (got_by result) counts.new held.new output.new ≡ shown counts.old held.old (feed_of (stream_of counts.old held.old) piece.now output.old) }
 {
-    let given = Counts::from(*counts);
+    let given = counts_in(counts);
     answer_of(given, held, piece.len(), output.len())?;
     let scanned = scan(&held[..given.count], piece, output);
     hold(held, given.count, piece, scanned.place);
@@ -73,6 +73,28 @@ pub(crate) fn feed(
         skipped: given.skipped + scanned.skipped as u64,
         total: given.total + piece.len() as u64,
     };
-    *counts = next.into();
+    put_counts(next, counts);
     Ok(scanned.frames as u8)
+}
+
+// The counts that the cells are. They are read, and written, one by one where they are lent: `From` would make an array of them,
+// and a feed has none.
+fn counts_in(cells: &[u64; 4]) -> Counts
+    ensures { result ≡ record { count = get_or cells.now 0 0; frames = get_or cells.now 1 0; skipped = get_or cells.now 2 0; total = get_or cells.now 3 0 } }
+{
+    Counts {
+        count: cells[0] as usize,
+        frames: cells[1],
+        skipped: cells[2],
+        total: cells[3],
+    }
+}
+
+fn put_counts(counts: Counts, cells: &mut [u64; 4])
+    ensures { cells.new ≡ counts.count ∷ counts.frames ∷ counts.skipped ∷ counts.total ∷ [] }
+{
+    cells[0] = counts.count as u64;
+    cells[1] = counts.frames;
+    cells[2] = counts.skipped;
+    cells[3] = counts.total;
 }
