@@ -11,7 +11,7 @@ use Rattle.std.specs.Prelude.{Some, None}
 use Rattle.wire.proofs.Cases.{by_test, by_order}
 use Rattle.hexline.specs.Digits.{value_of, is_digit, digit_in}
 use Rattle.hexline.specs.Lines.{newline}
-use Rattle.hexline.specs.Reader.{byte_on, one_more, line_end, take_from, take_of, with_digit}
+use Rattle.hexline.specs.Reader.{byte_on, frame_on, count_on, one_more, line_end, take_from, take_of, with_digit}
 use Rattle.hexline.specs.declared.Reader.{Reader}
 use Rattle.hexline.specs.declared.Line.TheVariants.{Unfinished}
 
@@ -94,3 +94,8 @@ module _ (chunk : List ℕ) (given : Reader) where
       pub reading_byte : (get_or chunk at 0 ≡ newline → ⊥) → Reading chunk given (byte_on r (get_or chunk at 0)) (at + 1)
       reading_byte e =
           record { inside = omega arith; same = sym (take_byte at r _ _ e) ∙ ap (take_from at r) (sym next) ∙ so_far.same }
+
+      pub reading_parts : (f : List ℕ) (k : ℕ) → f ≡ frame_on r.frame r.count (get_or chunk at 0) → k ≡ count_on r.count (get_or chunk at 0) → (get_or chunk at 0 ≡ newline → ⊥)
+          → Reading chunk given (record { frame = f; count = k; number = r.number }) (at + 1)
+      unfolding byte_on
+      reading_parts f k digits counted e = rw (digits, counted) (reading_byte e)

@@ -11,7 +11,7 @@ mod digit;
 pub mod print;
 
 ghost use Rattle.std.specs.Prelude.{◌≡◌};
-ghost use Rattle.hexline.specs.Reader.{fresh_reader, take_of, byte_on, end_of, line_end};
+ghost use Rattle.hexline.specs.Reader.{fresh_reader, take_of, frame_on, count_on, end_of, line_end};
 
 const NEWLINE: u8 = 0x0a;
 
@@ -63,19 +63,31 @@ impl Reader {
         }
     }
 
-    // Reads the chunk up to the first end of a line, or to its own end.
+    // Reads the chunk up to the first end of a line, or to its own end. Its loop has the frame and the count apart: in one value
+    // the count was stored and loaded again for each digit.
     pub fn take(self, chunk: &[u8]) -> Taken
         ensures { result ≡ take_of self chunk.now }
     {
-        let mut reader = self;
+        let number = self.number;
+        let mut frame = self.frame;
+        let mut count = self.count;
         for (at, b) in chunk.iter().enumerate() {
             if *b == NEWLINE {
+                let reader = Reader {
+                    frame,
+                    count,
+                    number,
+                };
                 return reader.line_end(at + 1);
             }
-            reader.byte(*b);
+            count = byte(&mut frame, count, *b);
         }
         Taken {
-            reader,
+            reader: Reader {
+                frame,
+                count,
+                number,
+            },
             used: chunk.len(),
             line: Line::Unfinished,
         }
@@ -95,20 +107,6 @@ impl Reader {
         self.line_end(0)
     }
 
-    // One byte more of the present line.
-    pub(crate) fn byte(&mut self, b: u8)
-        ensures { self.new ≡ byte_on self.old b }
-    {
-        match digit::value(b) {
-            Some(value) if self.count < FRAME => {
-                let place = self.count / 2;
-                self.frame[place] = (self.frame[place] << 4) + value;
-                self.count += 1;
-            }
-            _ => self.count = NO_FRAME,
-        }
-    }
-
     // The present line ends here. The number of a line stays at the greatest that there is.
     pub(crate) fn line_end(self, used: usize) -> Taken
         ensures { result ≡ line_end used self }
@@ -126,4 +124,19 @@ impl Reader {
         };
         Taken { reader, used, line }
     }
+}
+
+// One byte more of a line of so many digits, which stand in the frame: how many there are then.
+pub(crate) fn byte(frame: &mut [u8; 512], count: usize, b: u8) -> usize
+    ensures digits { frame.new ≡ frame_on frame.old count b }
+    ensures counted { result ≡ count_on count b }
+{
+    if count < FRAME {
+        if let Some(value) = digit::value(b) {
+            let place = count / 2;
+            frame[place] = (frame[place] << 4) + value;
+            return count + 1;
+        }
+    }
+    NO_FRAME
 }

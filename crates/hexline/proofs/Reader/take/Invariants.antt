@@ -3,4 +3,4 @@ use Rattle.hexline.proofs.Steps.{Reading}
 use Rattle.hexline.proofs.Reader.take.Given as goal
 
 abbrev pub invariant-loop-at : goal.invariant-loop-at
-invariant-loop-at l = Reading l.chunk l.initial.reader l.reader l.at
+invariant-loop-at l = Reading l.chunk (record { frame = l.initial.frame; count = l.initial.count; number = l.number }) (record { frame = l.frame; count = l.count; number = l.number }) l.at
