@@ -11,7 +11,8 @@ use host_record::record::{Controls, Front, HighPass, Host, LowPass};
 pub const HOST: usize = 62;
 
 // Word 0's cells, the frequencies' and the drive's, word 9's, word 10's. Each is its field by `as`, flags and numbers alike, so that
-// the lists read as C's record does.
+// the lists read as C's record does. In line the cells of a fresh record are constants, which are stored where they are lent.
+#[inline(always)]
 pub fn host_cells(host: Host) -> [u32; HOST]
     ensures { result ≡ host_cells host }
 {
