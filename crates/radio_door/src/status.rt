@@ -12,7 +12,7 @@ use radio_status::record::{
 use wire::Refusal;
 
 // The most that each cell can hold.
-const MOST: [u32; 26] = [
+pub const MOST: [u32; 26] = [
     1, 1, 1, 1, 1, 1, 1, 1, 1, 1, 1, 1, 1, 255, 255, 255, 65535, 65535, 65535, 65535, 65535, 65535,
     255, 255, 255, 255,
 ];
