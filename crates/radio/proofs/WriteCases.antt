@@ -24,6 +24,10 @@ use Rattle.radio.proofs.Cases.{not_accepted}
 use Rattle.radio.specs.Write.{tests, later_answer, answer_of, in_range, frame_of, gave, write_of}
 
 module _ (s : Status) (w n : ℕ) (iq : List ℤ) where
+  pub unwritable : all_fit (take (values n) iq) ≡ true → status_fits s ≡ false → in_range s w n iq ≡ false
+  unfolding in_range
+  unwritable fit out = rw fit (ap (λ b. b && leb w 4) out)
+
   pub range_good : all_fit (take (values n) iq) ≡ true → status_fits s ≡ true → w ≤ 4 → in_range s w n iq ≡ true
   unfolding in_range
   range_good fit writable listed = rw (fit, writable, le-leb w 4 listed)
