@@ -480,7 +480,7 @@ static inline int hpsdr_stream_is_sound(const struct hpsdr_stream *stream) {
  * was fed, counted from 0, is 512 * (counts.frames - 1) + counts.skipped.
  *
  * The stack. On Arm and x86-64 the call goes at most 2,048 bytes below its caller, whatever it answers: tests/stack.c
- * fails above that, and found 280 bytes on x86-64; the code for Arm sets aside 128 and calls memset alone. It is no part
+ * fails above that, and found 280 bytes on x86-64; the code for Arm sets aside 144 and calls memset alone. It is no part
  * of what is proved.
  *
  * What no reader can know from the bytes. Sample bytes may imitate sync. Where 7F 7F 7F stands and again 512 bytes
